@@ -1,0 +1,229 @@
+-- The starred cases 1 to 8 of document 01, as one table, and one theorem that the definitions give each of them its answers and its end.
+use mathlib.Core.Path.{_≡_, refl}
+use mathlib.Core.List.{List, [], _∷_}
+use mathlib.Core.Bool.{Bool, true, false}
+use Prim.Native.Nat.{ℕ, zero, suc, _+_}
+use lib.Count.{ones}
+use Rattle.sets.specs.Each.{each}
+use Rattle.sets.specs.Every.{every as everyBelow}
+use Rattle.sets.specs.Set.{has, insertOf, removeOf, unionOf, intersectionOf, differenceOf, allOf, sizeOf}
+use Rattle.sets.specs.Truth.{_&&_, _||_, same, below, choose}
+use Rattle.global_data.specs.GlobalData.{Entry, absent, value, entryOf, sameEntry, nothingOf, oneOf, filledWord, fillOf, fillFrom, sameTo, sameAll}
+use Rattle.process.specs.Steps.{idleOf, takesPart, openOf, startOf, keeps, receiveOf, arrivedOf, dueOf, nextOf, peersOf, filledOf, agreedOf, decidesOf, owedOf, decideOf, advanceOf, closeOf, adoptOf, messageOf, sendOf, suspectOf}
+use Rattle.process.specs.declared.Process.{Process}
+use Rattle.bench.specs.declared.Bench.{Bench}
+use Rattle.bench.specs.State.{processAt, sentAt, transitAt, crashedAt, withProcess, withSent, withTransit, withCrashed, openedOf}
+use Rattle.bench.specs.Sound.{opens, every, within, soundData, soundProcess, soundOf}
+use Rattle.bench.specs.Record.{wordOf, isProcess, usesB, usesR, usesValue, fieldB, fieldR, fieldValue, fields, messageFrom, eventOf, partsOf, decodeOf}
+use Rattle.bench.specs.Refuse.{check, numberOf, actor, possible, ready, allowed, refuses, refusesDecoded, refusal}
+use Rattle.bench.specs.Effect.{opensRound, rowsAt, sends, arrives, closesAs, effect, effectDecoded, effectOf}
+use Rattle.bench.specs.Calls.{after}
+
+-- a record's bytes: kind, a, b, r, and a value below 256
+bytes : ℕ → ℕ → ℕ → ℕ → ℕ → List ℕ
+bytes kind a b r v = kind ∷ a ∷ b ∷ r ∷ v ∷ 0 ∷ 0 ∷ 0 ∷ []
+
+start : ℕ → ℕ → List ℕ
+start a v = bytes 1 a 0 0 v
+
+send : ℕ → ℕ → List ℕ
+send a b = bytes 2 a b 0 0
+
+arrive : ℕ → ℕ → ℕ → List ℕ
+arrive a b r = bytes 3 a b r 0
+
+close : ℕ → List ℕ
+close a = bytes 4 a 0 0 0
+
+crash : ℕ → List ℕ
+crash a = bytes 5 a 0 0 0
+
+suspect : ℕ → ℕ → List ℕ
+suspect a b = bytes 6 a b 0 0
+
+-- a process at the end, as the program's `T` lines show it
+pub record Line : Type 0 where
+  pub process : ℕ
+  pub round : ℕ
+  pub crashed : Bool
+  pub decided : Bool
+  -- its current set, as bits
+  pub current : ℕ
+  pub entries : List Entry
+
+-- a schedule on a bench of n and t: the refusal at opening or 0, the records, the answer to each, and some processes at the end
+pub record Case : Type 0 where
+  pub n : ℕ
+  pub t : ℕ
+  pub opening : ℕ
+  pub records : List (List ℕ)
+  pub answers : List ℕ
+  pub lines : List Line
+
+-- the answers, and the bench at the end
+answersOf : Bench → List (List ℕ) → List ℕ
+answersOf s [] = []
+answersOf s (r ∷ rs) = refusal s r ∷ answersOf (after s r) rs
+
+endOf : Bench → List (List ℕ) → Bench
+endOf s [] = s
+endOf s (r ∷ rs) = endOf (after s r) rs
+
+sameBool : Bool → Bool → Bool
+sameBool true b = b
+sameBool false true = false
+sameBool false false = true
+
+sameList : List ℕ → List ℕ → Bool
+sameList [] [] = true
+sameList [] (y ∷ m) = false
+sameList (x ∷ l) [] = false
+sameList (x ∷ l) (y ∷ m) = same x y && sameList l m
+
+sameEntries : ℕ → Process → List Entry → Bool
+sameEntries k p [] = true
+sameEntries k p (e ∷ l) = sameEntry (entryOf (p .estimate) k) e && sameEntries (suc k) p l
+
+pred : ℕ → ℕ
+pred zero = zero
+pred (suc k) = k
+
+sameLine : Bench → Line → Bool
+sameLine s l =
+    let p = processAt s (pred (l .process)) in
+    same (p .round) (l .round)
+    && (sameBool (crashedAt s (pred (l .process))) (l .crashed)
+    && (sameBool (p .decided) (l .decided) && (same (p .current) (l .current) && sameEntries 0 p (l .entries))))
+
+pub passes : Case → Bool
+passes c =
+    let s = openedOf (c .n) (c .t) in
+    same (choose (opens (c .n) (c .t)) 0 1) (c .opening)
+    && (sameList (answersOf s (c .records)) (c .answers) && every (sameLine (endOf s (c .records))) (c .lines))
+
+-- every process sends its message to each of two others; each of them arrives
+round3 : ℕ → List (List ℕ) → List (List ℕ)
+round3 r rest =
+    send 1 2 ∷ send 1 3 ∷ send 2 1 ∷ send 2 3 ∷ send 3 1 ∷ send 3 2
+    ∷ arrive 1 2 r ∷ arrive 1 3 r ∷ arrive 2 1 r ∷ arrive 2 3 r ∷ arrive 3 1 r ∷ arrive 3 2 r ∷ close 1 ∷ close 2 ∷ close 3 ∷ rest
+
+-- no answer is a refusal
+noRefusal : List (List ℕ) → List ℕ
+noRefusal [] = []
+noRefusal (r ∷ rs) = 0 ∷ noRefusal rs
+
+-- ---- the table
+-- 1: alone
+case1 : Case
+case1 =
+    record {
+      n = 1;
+      t = 0;
+      opening = 0;
+      records = start 1 7 ∷ close 1 ∷ [];
+      answers = 0 ∷ 0 ∷ [];
+      lines = record { process = 1; round = 1; crashed = false; decided = true; current = 1; entries = value 7 ∷ [] } ∷ [];
+    }
+
+-- 2: three processes, no crash, all decide in round 2
+allThree : ℕ → Line
+allThree a = record { process = a; round = 2; crashed = false; decided = true; current = 7; entries = value 5 ∷ value 6 ∷ value 7 ∷ [] }
+
+case2 : Case
+case2 =
+    let schedule = start 1 5 ∷ start 2 6 ∷ start 3 7 ∷ round3 1 (round3 2 []) in
+    record {
+      n = 3;
+      t = 2;
+      opening = 0;
+      records = schedule;
+      answers = noRefusal schedule;
+      lines = allThree 1 ∷ allThree 2 ∷ allThree 3 ∷ [];
+    }
+
+-- 3: the value 0 is present
+case3 : Case
+case3 =
+    record {
+      n = 1;
+      t = 0;
+      opening = 0;
+      records = start 1 0 ∷ close 1 ∷ [];
+      answers = 0 ∷ 0 ∷ [];
+      lines = record { process = 1; round = 1; crashed = false; decided = true; current = 1; entries = value 0 ∷ [] } ∷ [];
+    }
+
+-- 4: the program's input, all twelve answers and both final lines; 6 on top of it: a crash too many
+case4and6 : Case
+case4and6 =
+    record {
+      n = 2;
+      t = 1;
+      opening = 0;
+      records =
+          start 1 40 ∷ start 2 25 ∷ send 1 2 ∷ send 2 1 ∷ arrive 1 2 1 ∷ arrive 2 1 1 ∷ close 1 ∷ crash 2 ∷ send 1 2 ∷ close 1
+          ∷ suspect 1 2 ∷ close 1 ∷ crash 1 ∷ [];
+      answers = 0 ∷ 0 ∷ 0 ∷ 0 ∷ 0 ∷ 0 ∷ 0 ∷ 0 ∷ 0 ∷ 8 ∷ 0 ∷ 0 ∷ 9 ∷ [];
+      lines =
+          record { process = 1; round = 2; crashed = false; decided = true; current = 3; entries = value 40 ∷ value 25 ∷ [] }
+          ∷ record { process = 2; round = 1; crashed = true; decided = false; current = 3; entries = absent ∷ value 25 ∷ [] } ∷ [];
+    }
+
+-- 5: sizes that open and sizes that do not
+sizes : ℕ → ℕ → ℕ → Case
+sizes n t opening = record { n = n; t = t; opening = opening; records = []; answers = []; lines = [] }
+
+-- 7: an estimate arrived, then its sender is suspected, then the close: it is in the next set
+case7 : Case
+case7 =
+    record {
+      n = 2;
+      t = 1;
+      opening = 0;
+      records = start 1 40 ∷ start 2 25 ∷ send 1 2 ∷ send 2 1 ∷ arrive 2 1 1 ∷ crash 2 ∷ suspect 1 2 ∷ close 1 ∷ [];
+      answers = 0 ∷ 0 ∷ 0 ∷ 0 ∷ 0 ∷ 0 ∷ 0 ∷ 0 ∷ [];
+      lines = record { process = 1; round = 2; crashed = false; decided = false; current = 3; entries = value 40 ∷ value 25 ∷ [] } ∷ [];
+    }
+
+-- 8: equal estimates with previous and next differing, in a round below t + 1: no decision
+case8 : Case
+case8 =
+    record {
+      n = 2;
+      t = 1;
+      opening = 0;
+      records = start 1 5 ∷ crash 2 ∷ suspect 1 2 ∷ send 1 2 ∷ close 1 ∷ [];
+      answers = 0 ∷ 0 ∷ 0 ∷ 0 ∷ 0 ∷ [];
+      lines = record { process = 1; round = 2; crashed = false; decided = false; current = 1; entries = value 5 ∷ absent ∷ [] } ∷ [];
+    }
+
+-- one more: the estimate sent in a round is the one held when it opened, though its sender has since closed that round
+case9 : Case
+case9 =
+    record {
+      n = 3;
+      t = 2;
+      opening = 0;
+      records =
+          start 1 5 ∷ start 2 6 ∷ start 3 7 ∷ send 1 2 ∷ send 1 3 ∷ send 2 1 ∷ send 2 3 ∷ send 3 1 ∷ arrive 1 2 1 ∷ arrive 2 1 1
+          ∷ arrive 3 1 1 ∷ close 1 ∷ crash 3 ∷ suspect 2 3 ∷ close 2 ∷ [];
+      answers = 0 ∷ 0 ∷ 0 ∷ 0 ∷ 0 ∷ 0 ∷ 0 ∷ 0 ∷ 0 ∷ 0 ∷ 0 ∷ 0 ∷ 0 ∷ 0 ∷ 0 ∷ [];
+      lines =
+          record { process = 1; round = 2; crashed = false; decided = false; current = 7; entries = value 5 ∷ value 6 ∷ value 7 ∷ [] }
+          ∷ record { process = 2; round = 2; crashed = false; decided = false; current = 3; entries = value 5 ∷ value 6 ∷ absent ∷ [] } ∷ [];
+    }
+
+pub table : List Case
+table = case1 ∷ case2 ∷ case3 ∷ case4and6 ∷ sizes 16 15 0 ∷ sizes 17 0 1 ∷ sizes 0 0 1 ∷ case7 ∷ case8 ∷ case9 ∷ []
+
+-- every case passes: the checker computes it from the definitions
+pub cases : every passes table ≡ true
+unfolding bytes start send arrive close crash suspect answersOf endOf sameBool sameList sameEntries pred sameLine passes
+    round3 noRefusal allThree case1 case2 case3 case4and6 sizes case7 case8 case9 table
+    has insertOf removeOf unionOf intersectionOf differenceOf allOf sizeOf ones _&&_ _||_ same below choose
+    entryOf sameEntry each everyBelow nothingOf oneOf filledWord fillOf fillFrom sameTo sameAll
+    idleOf takesPart openOf startOf keeps receiveOf arrivedOf dueOf nextOf peersOf filledOf agreedOf decidesOf owedOf decideOf advanceOf closeOf adoptOf messageOf sendOf suspectOf
+    processAt sentAt transitAt crashedAt withProcess withSent withTransit withCrashed openedOf opens every within soundData soundProcess soundOf
+    wordOf isProcess usesB usesR usesValue fieldB fieldR fieldValue fields messageFrom eventOf partsOf decodeOf check numberOf actor possible ready allowed refuses refusesDecoded refusal
+    opensRound rowsAt sends arrives closesAs effect effectDecoded effectOf after
+cases = refl

@@ -1,0 +1,11 @@
+pub mod Cases
+pub mod Calls
+pub mod Effect
+pub mod Record
+pub mod RecordLaws
+pub mod Refuse
+pub mod RefuseLaws
+pub mod RunLaws
+pub mod Sound
+pub mod SoundLaws
+pub mod State

@@ -1,0 +1,71 @@
+-- The global data (document 01's sheet): an entry for each process, absent or a value, and how entries are filled and compared.
+use mathlib.Core.Bool.{Bool, true, false}
+use mathlib.Core.List.{List, []}
+use Prim.Native.Nat.{ℕ, zero, suc}
+use lib.ListN.{getD, set, replicate}
+use Rattle.sets.specs.Each.{each}
+use Rattle.sets.specs.Every.{every}
+use Rattle.sets.specs.Set.{has, insertOf, unionOf, differenceOf, emptySet}
+use Rattle.sets.specs.Truth.{same, choose}
+use Rattle.global_data.specs.declared.GlobalData.{GlobalData}
+
+-- an entry of the global data: document 01's blank, or a count
+pub data Entry : Type 0 where
+  absent : Entry
+  value : ℕ → Entry
+
+-- the entry of a present bit and a word
+abbrev pub entry : Bool → ℕ → Entry
+entry b x = choose b (value x) absent
+
+unfoldable pub entryOf : GlobalData → ℕ → Entry
+entryOf g k = entry (has (g .present) k) (getD (g .values) k 0)
+
+-- an absent entry takes the other
+unfoldable pub orElse : Entry → Entry → Entry
+orElse absent e = e
+orElse (value v) e = value v
+
+-- absent in both, or one value in both
+unfoldable pub sameEntry : Entry → Entry → Bool
+sameEntry absent absent = true
+sameEntry absent (value w) = false
+sameEntry (value v) absent = false
+sameEntry (value v) (value w) = same v w
+
+-- every entry absent
+unfoldable pub nothingOf : GlobalData
+nothingOf = record { present = emptySet; values = replicate 16 0 }
+
+-- entry i alone, with the value v
+unfoldable pub oneOf : ℕ → ℕ → GlobalData
+oneOf i v = record { present = insertOf emptySet i; values = set (replicate 16 0) i v }
+
+-- the word of entry k once g is filled from row: the row's, where row has the entry and g lacks it
+unfoldable pub filledWord : GlobalData → GlobalData → ℕ → ℕ
+filledWord g row k =
+    choose (has (differenceOf (row .present) (g .present)) k) (getD (row .values) k 0) (getD (g .values) k 0)
+
+-- each entry absent in g takes the row's
+unfoldable pub fillOf : GlobalData → GlobalData → GlobalData
+fillOf g row = record { present = unionOf (g .present) (row .present); values = each 16 (filledWord g row) }
+
+-- g, filled from the rows of the members of m below p, in rising order
+unfoldable pub fillFrom : ℕ → ℕ → (ℕ → GlobalData) → GlobalData → GlobalData
+fillFrom zero m rows g = g
+fillFrom (suc p) m rows g = choose (has m p) (fillOf (fillFrom p m rows g) (rows p)) (fillFrom p m rows g)
+
+-- each entry below n is absent in both, or one value in both
+unfoldable pub sameTo : ℕ → GlobalData → GlobalData → Bool
+sameTo n g h = every n (λ k. sameEntry (entryOf g k) (entryOf h k))
+
+-- the row of each member of m below p is the same as g, in the entries below n
+unfoldable pub sameAll : ℕ → ℕ → ℕ → (ℕ → GlobalData) → GlobalData → Bool
+sameAll p n m rows g = every p (λ q. choose (has m q) (sameTo n (rows q) g) true)
+
+-- what lies past the end of an array of rows
+abbrev pub noData : GlobalData
+noData = record { present = 0; values = [] }
+
+abbrev pub rowsOf : List GlobalData → ℕ → GlobalData
+rowsOf rows p = getD rows p noData

@@ -1,0 +1,339 @@
+-- Laws of the global data: each entry after filling, where a filled entry comes from, and what it is to be the same.
+-- An entry is read by its present bit, and every law goes by whether that bit is set.
+use mathlib.Core.Path.{_≡_, refl, sym, ap, _∙_}
+use mathlib.Core.Logic.{_⊎_, inl, inr, ⊎-elim}
+use mathlib.Core.Bool.{Bool, true, false, not}
+use Prim.Native.Nat.{ℕ, zero, suc, _+_, _-_, _^_, _≤_, _<_}
+use native.Mathlib.Omega.{arith}
+use lib.ListN.{length, getD, replicate, length-set}
+use lib.Seq.{getD-set-same}
+use Rattle.sets.specs.Each.{each, length-each, getD-each}
+use Rattle.sets.specs.Every.{every-on, every-mk, every-not}
+use Rattle.sets.specs.Laws.{has-empty, has-insert, has-union, has-difference, union-lt}
+use Rattle.sets.specs.Set.{has}
+use Rattle.sets.specs.Truth as truth
+use Rattle.sets.specs.Truth.{_&&_, _||_, same, choose, Is, on, off, is, clash, both-ways, choose-on, choose-off, or-off-r, or-mk-l, or-mk-r, eq-or}
+use Rattle.global_data.specs.GlobalData.{Entry, absent, value, entry, entryOf, orElse, sameEntry, nothingOf, oneOf, filledWord, fillOf, fillFrom, sameTo, sameAll}
+use Rattle.global_data.specs.declared.GlobalData.{GlobalData}
+
+-- ---- entries
+pub entry-present : (g : GlobalData) (k : ℕ) → has (g .present) k ≡ true → entryOf g k ≡ value (getD (g .values) k 0)
+unfolding entryOf
+entry-present g k e = choose-on (has (g .present) k) (value (getD (g .values) k 0)) absent e
+
+pub entry-absent : (g : GlobalData) (k : ℕ) → has (g .present) k ≡ false → entryOf g k ≡ absent
+unfolding entryOf
+entry-absent g k e = choose-off (has (g .present) k) (value (getD (g .values) k 0)) absent e
+
+-- an entry is not absent and a value
+pub not-both : {A : Type 0} (e : Entry) (v : ℕ) → e ≡ absent → e ≡ value v → A
+not-both e v p q = let z : _≡_ {A = ℕ} 0 1 = cc in absurd (omega arith)
+
+pub value-present : (g : GlobalData) (k v : ℕ) → entryOf g k ≡ value v → has (g .present) k ≡ true
+value-present g k v e = go (is (has (g .present) k))
+  where
+    go : Is (has (g .present) k) → has (g .present) k ≡ true
+    go (on t) = t
+    go (off f) = not-both (entryOf g k) v (entry-absent g k f) e
+
+pub absent-clear : (g : GlobalData) (k : ℕ) → entryOf g k ≡ absent → has (g .present) k ≡ false
+absent-clear g k e = go (is (has (g .present) k))
+  where
+    go : Is (has (g .present) k) → has (g .present) k ≡ false
+    go (on t) = not-both (entryOf g k) (getD (g .values) k 0) e (entry-present g k t)
+    go (off f) = f
+
+-- an entry is absent or a value, with the equation kept
+pub absent-or : (e : Entry) → (e ≡ absent) ⊎ ((v : ℕ) × (e ≡ value v))
+absent-or absent = inl refl
+absent-or (value v) = inr (v, refl)
+
+-- ---- nothing, and one entry
+pub entry-nothing : (k : ℕ) → entryOf nothingOf k ≡ absent
+unfolding nothingOf
+entry-nothing k = entry-absent nothingOf k (has-empty k)
+
+present-one : (i v k : ℕ) → has (oneOf i v .present) k ≡ same k i
+unfolding oneOf
+present-one i v k = has-insert 0 i k ∙ or-off-r (same k i) (has 0 k) (has-empty k)
+
+one-word : (i v : ℕ) → i < 16 → getD (oneOf i v .values) i 0 ≡ v
+unfolding oneOf
+one-word i v h = getD-set-same (replicate 16 0) i v 0 h
+
+pub entry-one : (i v k : ℕ) → i < 16 → entryOf (oneOf i v) k ≡ choose (same k i) (value v) absent
+entry-one i v k h = go (is (same k i))
+  where
+    go : Is (same k i) → entryOf (oneOf i v) k ≡ choose (same k i) (value v) absent
+    go (on t) =
+        entry-present (oneOf i v) k (present-one i v k ∙ t)
+        ∙ ap value (rw (truth.same-on k i t) (one-word i v h)) ∙ sym (choose-on (same k i) (value v) absent t)
+    go (off f) = entry-absent (oneOf i v) k (present-one i v k ∙ f) ∙ sym (choose-off (same k i) (value v) absent f)
+
+pub nothing-length : length (nothingOf .values) ≡ 16
+unfolding nothingOf
+nothing-length = refl
+
+pub one-length : (i v : ℕ) → length (oneOf i v .values) ≡ 16
+unfolding oneOf
+one-length i v = length-set (replicate 16 0) i v
+
+-- ---- filling from one row
+pub orElse-absent : (d e : Entry) → d ≡ absent → orElse d e ≡ e
+unfolding orElse
+orElse-absent d e h = rw h
+
+pub orElse-value : (d e : Entry) (v : ℕ) → d ≡ value v → orElse d e ≡ value v
+unfolding orElse
+orElse-value d e v h = rw h
+
+pub present-fill : (g row : GlobalData) (k : ℕ)
+    → has (fillOf g row .present) k ≡ (has (g .present) k || has (row .present) k)
+unfolding fillOf
+present-fill g row k = has-union (g .present) (row .present) k
+
+pub fill-lt : (n : ℕ) (g row : GlobalData) → g .present < 2 ^ n → row .present < 2 ^ n → fillOf g row .present < 2 ^ n
+unfolding fillOf
+fill-lt n g row hg hr = union-lt n (g .present) (row .present) hg hr
+
+pub fill-length : (g row : GlobalData) → length (fillOf g row .values) ≡ 16
+unfolding fillOf
+fill-length g row = length-each 16 (filledWord g row)
+
+pub entry-fill : (g row : GlobalData) (k : ℕ) → k < 16 → entryOf (fillOf g row) k ≡ orElse (entryOf g k) (entryOf row k)
+unfolding entryOf fillOf orElse filledWord choose _&&_ _||_
+entry-fill g row k h =
+    rw (has-union (g .present) (row .present) k, getD-each 16 (filledWord g row) 0 k h, has-difference (row .present) (g .present) k)
+    (table (has (g .present) k) (has (row .present) k) (getD (g .values) k 0) (getD (row .values) k 0))
+  where
+    table : (a b : Bool) (x y : ℕ)
+        → entry (a || b) (choose (b && not a) y x) ≡ orElse (entry a x) (entry b y)
+    table true true x y = refl
+    table true false x y = refl
+    table false true x y = refl
+    table false false x y = refl
+
+-- ---- filling from the rows of the members
+module _ (m : ℕ) (rows : ℕ → GlobalData) (g : GlobalData) where
+  pub fillFrom-on : (p : ℕ) → has m p ≡ true → fillFrom (suc p) m rows g ≡ fillOf (fillFrom p m rows g) (rows p)
+  unfolding fillFrom
+  fillFrom-on p t = choose-on (has m p) (fillOf (fillFrom p m rows g) (rows p)) (fillFrom p m rows g) t
+
+  pub fillFrom-off : (p : ℕ) → has m p ≡ false → fillFrom (suc p) m rows g ≡ fillFrom p m rows g
+  unfolding fillFrom
+  fillFrom-off p f = choose-off (has m p) (fillOf (fillFrom p m rows g) (rows p)) (fillFrom p m rows g) f
+
+  -- what holds of g, and is kept by a member's row and past one that is no member, holds of g filled
+  pub fillFrom-ind : (P : ℕ → GlobalData → Type 0) → P 0 g
+      → ((q : ℕ) → P q (fillFrom q m rows g) → has m q ≡ true → P (suc q) (fillOf (fillFrom q m rows g) (rows q)))
+      → ((q : ℕ) → P q (fillFrom q m rows g) → has m q ≡ false → P (suc q) (fillFrom q m rows g))
+      → (p : ℕ) → P p (fillFrom p m rows g)
+  unfolding fillFrom
+  fillFrom-ind P z s t zero = z
+  fillFrom-ind P z s t (suc q) = go (is (has m q)) (fillFrom-ind P z s t q)
+    where
+      go : Is (has m q) → P q (fillFrom q m rows g) → P (suc q) (fillFrom (suc q) m rows g)
+      go (on e) h = rw (fillFrom-on q e) (s q h e)
+      go (off e) h = rw (fillFrom-off q e) (t q h e)
+
+  pub fillFrom-lt : (n p : ℕ) → g .present < 2 ^ n → ((q : ℕ) → q < p → has m q ≡ true → rows q .present < 2 ^ n)
+      → fillFrom p m rows g .present < 2 ^ n
+  fillFrom-lt n p hg =
+      fillFrom-ind (λ (q : ℕ) (f : GlobalData). ((r : ℕ) → r < q → has m r ≡ true → rows r .present < 2 ^ n) → f .present < 2 ^ n)
+      (λ h. hg)
+      (λ q ih e h. fill-lt n (fillFrom q m rows g) (rows q) (ih (λ r l. h r (omega arith))) (h q (omega arith) e))
+      (λ q ih e h. ih (λ r l. h r (omega arith))) p
+
+  pub fillFrom-length : (p : ℕ) → length (g .values) ≡ 16 → length (fillFrom p m rows g .values) ≡ 16
+  fillFrom-length p h =
+      fillFrom-ind (λ (q : ℕ) (f : GlobalData). length (f .values) ≡ 16) h
+      (λ q ih e. fill-length (fillFrom q m rows g) (rows q)) (λ q ih e. ih) p
+
+  -- a present entry stays present
+  pub fill-stays : (p k : ℕ) → has (g .present) k ≡ true → has (fillFrom p m rows g .present) k ≡ true
+  fill-stays p k h =
+      fillFrom-ind (λ (q : ℕ) (f : GlobalData). has (f .present) k ≡ true) h
+      (λ q ih e. present-fill (fillFrom q m rows g) (rows q) k ∙ or-mk-l (has (fillFrom q m rows g .present) k) (has (rows q .present) k) ih)
+      (λ q ih e. ih) p
+
+  -- an entry that a member's row has is present
+  pub fill-has : (p q k : ℕ) → q < p → has m q ≡ true → has (rows q .present) k ≡ true
+      → has (fillFrom p m rows g .present) k ≡ true
+  fill-has p q k l t h =
+      fillFrom-ind (λ (p : ℕ) (f : GlobalData). q < p → has (f .present) k ≡ true) (λ l. absurd (omega arith))
+      (λ r ih e l.
+      let a = has (fillFrom r m rows g .present) k in
+      let b = has (rows r .present) k in
+      present-fill (fillFrom r m rows g) (rows r) k
+      ∙ ⊎-elim (λ (u : q ≡ r). or-mk-r a b (rw (← u) h)) (λ u. or-mk-l a b (ih (omega arith))) (eq-or q r))
+      (λ r ih e l. ⊎-elim (λ (u : q ≡ r). clash (has m q) t (rw u e)) (λ u. ih (omega arith)) (eq-or q r))
+      p l
+
+  -- a value once there is kept
+  pub fill-later : (q p k v : ℕ) → k < 16 → q ≤ p → entryOf (fillFrom q m rows g) k ≡ value v
+      → entryOf (fillFrom p m rows g) k ≡ value v
+  fill-later q p k v b l h = go (p - q) p (omega arith)
+    where
+      step : (p : ℕ) → Is (has m p) → entryOf (fillFrom p m rows g) k ≡ value v → entryOf (fillFrom (suc p) m rows g) k ≡ value v
+      step p (on e) ih =
+          ap (λ (f : GlobalData). entryOf f k) (fillFrom-on p e) ∙ entry-fill (fillFrom p m rows g) (rows p) k b
+          ∙ orElse-value (entryOf (fillFrom p m rows g) k) (entryOf (rows p) k) v ih
+      step p (off e) ih = ap (λ (f : GlobalData). entryOf f k) (fillFrom-off p e) ∙ ih
+
+      go : (d p : ℕ) → p ≡ q + d → entryOf (fillFrom p m rows g) k ≡ value v
+      go zero p e = let e′ : p ≡ q = omega arith in rw e′ h
+      go (suc d) p e =
+          let e′ : p ≡ suc (q + d) = omega arith in
+          rw e′ (step (q + d) (is (has m (q + d))) (go d (q + d) refl))
+
+  pub fill-keeps : (p k v : ℕ) → k < 16 → entryOf g k ≡ value v → entryOf (fillFrom p m rows g) k ≡ value v
+  unfolding fillFrom
+  fill-keeps p k v b h = fill-later 0 p k v b (omega arith) h
+
+  -- an entry is absent after filling just where it is absent in g and in each member's row
+  pub fill-absent : (p k : ℕ) → k < 16 → entryOf g k ≡ absent
+      → ((q : ℕ) → q < p → has m q ≡ true → entryOf (rows q) k ≡ absent) → entryOf (fillFrom p m rows g) k ≡ absent
+  fill-absent p k b hg =
+      fillFrom-ind
+      (λ (q : ℕ) (f : GlobalData). ((r : ℕ) → r < q → has m r ≡ true → entryOf (rows r) k ≡ absent) → entryOf f k ≡ absent)
+      (λ h. hg)
+      (λ q ih e h.
+      entry-fill (fillFrom q m rows g) (rows q) k b
+      ∙ orElse-absent (entryOf (fillFrom q m rows g) k) (entryOf (rows q) k) (ih (λ r l. h r (omega arith)))
+      ∙ h q (omega arith) e)
+      (λ q ih e h. ih (λ r l. h r (omega arith))) p
+
+  pub absent-own : (p k : ℕ) → entryOf (fillFrom p m rows g) k ≡ absent → entryOf g k ≡ absent
+  absent-own p k h = go (is (has (g .present) k))
+    where
+      go : Is (has (g .present) k) → entryOf g k ≡ absent
+      go (on t) = clash (has (fillFrom p m rows g .present) k) (fill-stays p k t) (absent-clear (fillFrom p m rows g) k h)
+      go (off f) = entry-absent g k f
+
+  pub absent-rows : (p k : ℕ) → entryOf (fillFrom p m rows g) k ≡ absent → (q : ℕ) → q < p → has m q ≡ true
+      → entryOf (rows q) k ≡ absent
+  absent-rows p k h q l e = go (is (has (rows q .present) k))
+    where
+      go : Is (has (rows q .present) k) → entryOf (rows q) k ≡ absent
+      go (on t) = clash (has (fillFrom p m rows g .present) k) (fill-has p q k l e t) (absent-clear (fillFrom p m rows g) k h)
+      go (off f) = entry-absent (rows q) k f
+
+-- the value v of entry k comes from the lowest-numbered member of m below p whose row has one, and g has none
+pub record Lowest (m : ℕ) (rows : ℕ → GlobalData) (g : GlobalData) (p k v : ℕ) : Type 0 where
+  pub who : ℕ
+  pub low : who < p
+  pub member : has m who ≡ true
+  pub shows : entryOf (rows who) k ≡ value v
+  pub lacks : entryOf g k ≡ absent
+  pub none-before : (q : ℕ) → q < who → has m q ≡ true → entryOf (rows q) k ≡ absent
+
+module _ (m : ℕ) (rows : ℕ → GlobalData) (g : GlobalData) where
+  -- where a value comes from
+  pub fill-comes : (p k v : ℕ) → k < 16 → entryOf (fillFrom p m rows g) k ≡ value v
+      → (entryOf g k ≡ value v) ⊎ Lowest m rows g p k v
+  fill-comes p k v b =
+      fillFrom-ind m rows g
+      (λ (q : ℕ) (f : GlobalData). entryOf f k ≡ value v → (entryOf g k ≡ value v) ⊎ Lowest m rows g q k v)
+      inl (λ q ih e h. filled q e ih (sym (entry-fill (fillFrom q m rows g) (rows q) k b) ∙ h) (absent-or (entryOf (fillFrom q m rows g) k)))
+      (λ q ih e h. more q (ih h)) p
+    where
+      more : (q : ℕ) → (entryOf g k ≡ value v) ⊎ Lowest m rows g q k v → (entryOf g k ≡ value v) ⊎ Lowest m rows g (suc q) k v
+      more q (inl h) = inl h
+      more q (inr w) =
+          inr record {
+            who = w .who;
+            low = omega (arith, w .low);
+            member = w .member;
+            shows = w .shows;
+            lacks = w .lacks;
+            none-before = w .none-before;
+          }
+
+      filled : (q : ℕ) → has m q ≡ true
+          → (entryOf (fillFrom q m rows g) k ≡ value v → (entryOf g k ≡ value v) ⊎ Lowest m rows g q k v)
+          → orElse (entryOf (fillFrom q m rows g) k) (entryOf (rows q) k) ≡ value v
+          → (entryOf (fillFrom q m rows g) k ≡ absent) ⊎ ((w : ℕ) × (entryOf (fillFrom q m rows g) k ≡ value w))
+          → (entryOf g k ≡ value v) ⊎ Lowest m rows g (suc q) k v
+      filled q e ih h (inl a) =
+          inr record {
+            who = q;
+            low = omega arith;
+            member = e;
+            shows = sym (orElse-absent (entryOf (fillFrom q m rows g) k) (entryOf (rows q) k) a) ∙ h;
+            lacks = absent-own m rows g q k a;
+            none-before = absent-rows m rows g q k a;
+          }
+      filled q e ih h (inr w) =
+          more q (ih (w .1 ∙ sym (orElse-value (entryOf (fillFrom q m rows g) k) (entryOf (rows q) k) (w .0) (w .1)) ∙ h))
+
+  -- and it is that member's value
+  pub fill-lowest : (p k v : ℕ) → k < 16 → Lowest m rows g p k v → entryOf (fillFrom p m rows g) k ≡ value v
+  fill-lowest p k v b w =
+      let q = w .who in
+      fill-later m rows g (suc q) p k v b (w .low)
+      (ap (λ (f : GlobalData). entryOf f k) (fillFrom-on m rows g q (w .member))
+      ∙ entry-fill (fillFrom q m rows g) (rows q) k b
+      ∙ orElse-absent (entryOf (fillFrom q m rows g) k) (entryOf (rows q) k)
+      (fill-absent m rows g q k b (w .lacks) (w .none-before))
+      ∙ w .shows)
+
+-- ---- the same global data
+pub sameEntry-on : (d e : Entry) → sameEntry d e ≡ true → d ≡ e
+unfolding sameEntry
+sameEntry-on absent absent h = refl
+sameEntry-on absent (value w) h = clash false h refl
+sameEntry-on (value v) absent h = clash false h refl
+sameEntry-on (value v) (value w) h = ap value (truth.same-on v w h)
+
+pub sameEntry-refl : (e : Entry) → sameEntry e e ≡ true
+unfolding sameEntry
+sameEntry-refl absent = refl
+sameEntry-refl (value v) = truth.same-refl v
+
+module _ (n : ℕ) (g h : GlobalData) where
+  pub same-on : sameTo n g h ≡ true → (k : ℕ) → k < n → entryOf g k ≡ entryOf h k
+  unfolding sameTo
+  same-on e k l = sameEntry-on (entryOf g k) (entryOf h k) (every-on n (λ k. sameEntry (entryOf g k) (entryOf h k)) e k l)
+
+  pub same-mk : ((k : ℕ) → k < n → entryOf g k ≡ entryOf h k) → sameTo n g h ≡ true
+  unfolding sameTo
+  same-mk f = every-mk n (λ k. sameEntry (entryOf g k) (entryOf h k)) (λ k l. rw (f k l) (sameEntry-refl (entryOf h k)))
+
+  pub same-not : sameTo n g h ≡ false → (k : ℕ) × (k < n) × (entryOf g k ≡ entryOf h k → ⊥)
+  unfolding sameTo
+  same-not e =
+      let w = every-not n (λ k. sameEntry (entryOf g k) (entryOf h k)) e in
+      (w .0, w .1, λ u. clash (sameEntry (entryOf g (w .0)) (entryOf h (w .0))) (rw u (sameEntry-refl (entryOf h (w .0)))) (w .2))
+
+pub sameTo-refl : (n : ℕ) (g : GlobalData) → sameTo n g g ≡ true
+sameTo-refl n g = same-mk n g g (λ k l. refl)
+
+pub sameTo-sym : (n : ℕ) (g h : GlobalData) → sameTo n g h ≡ sameTo n h g
+sameTo-sym n g h =
+    both-ways (sameTo n g h) (sameTo n h g) (λ e. same-mk n h g (λ k l. sym (same-on n g h e k l)))
+    (λ e. same-mk n g h (λ k l. sym (same-on n h g e k l)))
+
+module _ (p n m : ℕ) (rows : ℕ → GlobalData) (g : GlobalData) where
+  abbrev row-same : ℕ → Bool
+  row-same q = choose (has m q) (sameTo n (rows q) g) true
+
+  pub sameAll-on : sameAll p n m rows g ≡ true → (q : ℕ) → q < p → has m q ≡ true → sameTo n (rows q) g ≡ true
+  unfolding sameAll
+  sameAll-on e q l t = sym (choose-on (has m q) (sameTo n (rows q) g) true t) ∙ every-on p row-same e q l
+
+  pub sameAll-mk : ((q : ℕ) → q < p → has m q ≡ true → sameTo n (rows q) g ≡ true) → sameAll p n m rows g ≡ true
+  unfolding sameAll
+  sameAll-mk h = every-mk p row-same (λ q l. go q l (is (has m q)))
+    where
+      go : (q : ℕ) → q < p → Is (has m q) → row-same q ≡ true
+      go q l (on t) = choose-on (has m q) (sameTo n (rows q) g) true t ∙ h q l t
+      go q l (off f) = choose-off (has m q) (sameTo n (rows q) g) true f
+
+  pub sameAll-not : sameAll p n m rows g ≡ false → (q : ℕ) × (q < p) × (has m q ≡ true) × (sameTo n (rows q) g ≡ false)
+  unfolding sameAll
+  sameAll-not e = let w = every-not p row-same e in go (w .0) (w .1) (w .2) (is (has m (w .0)))
+    where
+      go : (q : ℕ) → q < p → row-same q ≡ false → Is (has m q)
+          → (q : ℕ) × (q < p) × (has m q ≡ true) × (sameTo n (rows q) g ≡ false)
+      go q l u (on t) = (q, l, t, sym (choose-on (has m q) (sameTo n (rows q) g) true t) ∙ u)
+      go q l u (off f) = clash (row-same q) (choose-off (has m q) (sameTo n (rows q) g) true f) u

@@ -1,0 +1,2 @@
+pub mod GlobalData
+pub mod Laws

@@ -1,0 +1,124 @@
+// The global data: an entry for each process, absent or a value. An entry is absent where its present bit is clear, and 0 is a value.
+ghost use mathlib.Core.Path.{_≡_};
+ghost use Prim.Native.Nat.{_<_, _≤_};
+ghost use lib.ListN.{getD};
+ghost use Rattle.sets.specs.Set.{has};
+ghost use Rattle.sets.specs.Truth.{choose};
+ghost use Rattle.global_data.specs.GlobalData.{Entry, entry, entryOf, sameEntry, nothingOf, oneOf, fillOf, fillFrom, sameTo, sameAll, rowsOf};
+
+pub struct GlobalData {
+    pub present: u16,
+    pub values: [u32; 16],
+}
+
+impl GlobalData {
+    // Every entry absent.
+    pub fn nothing() -> GlobalData
+        ensures { λ r. ⌜ r ≡ nothingOf ⌝ }
+    {
+        GlobalData {
+            present: sets::empty(),
+            values: [0; 16],
+        }
+    }
+
+    // Entry i alone, with the value v.
+    pub fn one(i: usize, v: u32) -> GlobalData
+        requires { ⌜ i < 16 ⌝ }
+        ensures { λ r. ⌜ r ≡ oneOf i v ⌝ }
+    {
+        let mut w = [0u32; 16];
+        w[i] = v;
+        GlobalData {
+            present: sets::insert(sets::empty(), i),
+            values: w,
+        }
+    }
+
+    // Each absent entry takes that of the row.
+    pub fn fill(self, row: GlobalData) -> GlobalData
+        ensures { λ r. ⌜ r ≡ fillOf self row ⌝ }
+    {
+        let taken = sets::difference(row.present, self.present);
+        let mut w = self.values;
+        let mut k = 0;
+        while k < 16 {
+            w[k] = pick(sets::member(taken, k), row.values[k], self.values[k]);
+            k += 1;
+        }
+        GlobalData {
+            present: sets::union(self.present, row.present),
+            values: w,
+        }
+    }
+
+    // Whether each entry below n is absent in both, or one value in both.
+    pub fn same(self, other: GlobalData, n: usize) -> bool
+        requires { ⌜ n ≤ 16 ⌝ }
+        ensures { λ r. ⌜ r ≡ sameTo n self other ⌝ }
+    {
+        let mut ok = true;
+        let mut k = 0;
+        while k < n {
+            ok = same_entry(
+                sets::member(self.present, k),
+                self.values[k],
+                sets::member(other.present, k),
+                other.values[k],
+            )
+                & ok;
+            k += 1;
+        }
+        ok
+    }
+}
+
+fn pick(b: bool, x: u32, y: u32) -> u32
+    ensures { λ r. ⌜ r ≡ choose b x y ⌝ }
+{
+    if b { x } else { y }
+}
+
+// Two entries, each given by whether it is present and its word.
+fn same_entry(a: bool, x: u32, b: bool, y: u32) -> bool
+    ensures { λ r. ⌜ r ≡ sameEntry (entry a x) (entry b y) ⌝ }
+{
+    if a {
+        if b { x == y } else { false }
+    } else {
+        if b { false } else { true }
+    }
+}
+
+// g, filled from the rows of the members, in rising order.
+pub fn fill_from(g: GlobalData, members: u16, rows: [GlobalData; 16]) -> GlobalData
+    ensures { λ r. ⌜ r ≡ fillFrom 16 members (rowsOf rows) g ⌝ }
+{
+    let mut f = g;
+    let mut p = 0;
+    while p < 16 {
+        if sets::member(members, p) {
+            let from = rows[p];
+            f = f.fill(from);
+        }
+        p += 1;
+    }
+    f
+}
+
+// Whether the row of each member is the same as g, in the entries below n.
+pub fn same_all(g: GlobalData, members: u16, rows: [GlobalData; 16], n: usize) -> bool
+    requires { ⌜ n ≤ 16 ⌝ }
+    ensures { λ r. ⌜ r ≡ sameAll 16 n members (rowsOf rows) g ⌝ }
+{
+    let mut ok = true;
+    let mut q = 0;
+    while q < 16 {
+        if sets::member(members, q) {
+            let row = rows[q];
+            ok = row.same(g, n) & ok;
+        }
+        q += 1;
+    }
+    ok
+}

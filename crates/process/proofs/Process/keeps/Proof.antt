@@ -1,0 +1,19 @@
+-- `Process::keeps` is the test, joined by the same operators.
+use borrow.Author.Needs.{needs}
+use Rattle.sets.specs.Truth.{_&&_, _||_, below, same}
+use Rattle.process.specs.Steps.{keeps}
+use Rattle.process.proofs.Process.keeps.Statement.{statement}
+use Rattle.process.proofs.Process.keeps.Tie as tie
+
+cast-at : tie.Need-cast-at
+cast-at c = search needs
+
+member-requires : tie.Need-member-requires
+member-requires c κs = search needs
+
+returns : tie.Need-returns
+unfolding keeps _&&_ _||_ below same
+returns c = cc
+
+pub keeps-spec : {M : Type 1} → statement M
+keeps-spec = tie.close (tie.spec cast-at member-requires returns)

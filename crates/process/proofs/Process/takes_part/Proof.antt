@@ -1,0 +1,12 @@
+-- `Process::takes_part` is the test, joined by the same operators.
+use Rattle.sets.specs.Truth.{_&&_, below}
+use Rattle.process.specs.Steps.{takesPart}
+use Rattle.process.proofs.Process.takes_part.Statement.{statement}
+use Rattle.process.proofs.Process.takes_part.Tie as tie
+
+returns : tie.Need-returns
+unfolding takesPart _&&_ below
+returns c = cc
+
+pub takes-part-spec : {M : Type 1} → statement M
+takes-part-spec = tie.close (tie.spec returns)

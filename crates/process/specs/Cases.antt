@@ -1,0 +1,193 @@
+-- Closes of explicit processes, as one table, and one theorem that the definitions give each of them its end: the checker computes it.
+use mathlib.Core.Path.{_≡_, refl}
+use mathlib.Core.List.{List, [], _∷_}
+use mathlib.Core.Bool.{Bool, true, false}
+use Prim.Native.Nat.{ℕ, zero, suc}
+use Rattle.sets.specs.Each.{each}
+use Rattle.sets.specs.Every.{every}
+use Rattle.sets.specs.Set.{has, insertOf, removeOf, unionOf, intersectionOf, differenceOf, allOf}
+use Rattle.sets.specs.Truth.{_&&_, _||_, same, choose}
+use Rattle.global_data.specs.declared.GlobalData.{GlobalData}
+use Rattle.global_data.specs.GlobalData.{Entry, absent, value, entryOf, sameEntry, rowsOf, filledWord, fillOf, fillFrom, sameTo, sameAll}
+use Rattle.process.specs.declared.Process.{Process}
+use Rattle.process.specs.Steps.{openOf, arrivedOf, nextOf, peersOf, filledOf, agreedOf, decidesOf, owedOf, decideOf, advanceOf, closeOf}
+
+-- a process before a close: sets are bits, and `arrived` is whose estimates of this round have arrived
+pub record Start : Type 0 where
+  pub round : ℕ
+  pub previous : ℕ
+  pub current : ℕ
+  pub suspected : ℕ
+  pub arrived : ℕ
+  pub estimate : List Entry
+
+-- and after it
+pub record End : Type 0 where
+  pub decided : Bool
+  pub round : ℕ
+  pub previous : ℕ
+  pub current : ℕ
+  pub outbox : ℕ
+  pub estimate : List Entry
+
+-- process a, from 0, closes its round; `rows` is what each process sent in it
+pub record Case : Type 0 where
+  pub n : ℕ
+  pub t : ℕ
+  pub a : ℕ
+  pub start : Start
+  pub rows : List (List Entry)
+  pub end : End
+
+-- global data of the entries, from entry k
+dataFrom : ℕ → List Entry → GlobalData
+dataFrom k [] = record { present = 0; values = [] }
+dataFrom k (absent ∷ l) = let g = dataFrom (suc k) l in record { present = g .present; values = 0 ∷ g .values }
+dataFrom k (value v ∷ l) = let g = dataFrom (suc k) l in record { present = insertOf (g .present) k; values = v ∷ g .values }
+
+rowsFrom : List (List Entry) → List GlobalData
+rowsFrom [] = []
+rowsFrom (l ∷ ls) = dataFrom 0 l ∷ rowsFrom ls
+
+-- `received`: m in this round, and nothing in the k rounds before
+word : ℕ → ℕ → List ℕ
+word zero m = m ∷ []
+word (suc k) m = 0 ∷ word k m
+
+pred : ℕ → ℕ
+pred zero = zero
+pred (suc k) = k
+
+processOf : Start → Process
+processOf s =
+    record {
+      round = s .round;
+      decided = false;
+      previous = s .previous;
+      current = s .current;
+      suspected = s .suspected;
+      outbox = 0;
+      estimate = dataFrom 0 (s .estimate);
+      received = word (pred (s .round)) (s .arrived);
+    }
+
+sameBool : Bool → Bool → Bool
+sameBool true b = b
+sameBool false true = false
+sameBool false false = true
+
+-- the entries from entry k are the listed ones
+shows : ℕ → GlobalData → List Entry → Bool
+shows k g [] = true
+shows k g (e ∷ l) = sameEntry (entryOf g k) e && shows (suc k) g l
+
+pub passes : Case → Bool
+passes c =
+    let p = closeOf (c .n) (c .t) (c .a) (rowsOf (rowsFrom (c .rows))) (processOf (c .start)) in
+    let e = c .end in
+    sameBool (p .decided) (e .decided)
+    && (same (p .round) (e .round)
+    && (same (p .previous) (e .previous)
+    && (same (p .current) (e .current) && (same (p .outbox) (e .outbox) && shows 0 (p .estimate) (e .estimate)))))
+
+pub allPass : List Case → Bool
+allPass [] = true
+allPass (c ∷ l) = passes c && allPass l
+
+-- ---- the table
+-- all sets and all estimates agree: it decides early, and owes the decision to the other
+agreement : Case
+agreement =
+    record {
+      n = 2;
+      t = 1;
+      a = 0;
+      start = record { round = 1; previous = 3; current = 3; suspected = 0; arrived = 2; estimate = value 5 ∷ value 6 ∷ [] };
+      rows = [] ∷ (value 5 ∷ value 6 ∷ []) ∷ [];
+      end = record { decided = true; round = 1; previous = 3; current = 3; outbox = 2; estimate = value 5 ∷ value 6 ∷ [] };
+    }
+
+-- the sets agree and the arrived row is the new estimate, but its own old one was another: no decision
+ownOld : Case
+ownOld =
+    record {
+      n = 2;
+      t = 1;
+      a = 0;
+      start = record { round = 1; previous = 3; current = 3; suspected = 0; arrived = 2; estimate = value 5 ∷ absent ∷ [] };
+      rows = [] ∷ (value 5 ∷ value 6 ∷ []) ∷ [];
+      end = record { decided = false; round = 2; previous = 3; current = 3; outbox = 2; estimate = value 5 ∷ value 6 ∷ [] };
+    }
+
+-- an estimate arrived and its sender is suspected since: it is in the next set, and fills
+suspectedSender : Case
+suspectedSender =
+    record {
+      n = 2;
+      t = 1;
+      a = 0;
+      start = record { round = 1; previous = 3; current = 3; suspected = 2; arrived = 2; estimate = value 5 ∷ absent ∷ [] };
+      rows = [] ∷ (absent ∷ value 6 ∷ []) ∷ [];
+      end = record { decided = false; round = 2; previous = 3; current = 3; outbox = 2; estimate = value 5 ∷ value 6 ∷ [] };
+    }
+
+-- equal estimates, with previous and next differing: no decision
+setsDiffer : Case
+setsDiffer =
+    record {
+      n = 3;
+      t = 2;
+      a = 0;
+      start = record { round = 2; previous = 7; current = 3; suspected = 4; arrived = 2; estimate = value 5 ∷ value 6 ∷ absent ∷ [] };
+      rows = [] ∷ (value 5 ∷ value 6 ∷ absent ∷ []) ∷ [] ∷ [];
+      end = record { decided = false; round = 3; previous = 3; current = 3; outbox = 2; estimate = value 5 ∷ value 6 ∷ absent ∷ [] };
+    }
+
+-- the value 0 in one row and absent in another: these differ, so no decision, and the entry is 0 and present
+zeroOrAbsent : List Entry → Case
+zeroOrAbsent own =
+    record {
+      n = 3;
+      t = 2;
+      a = 0;
+      start = record { round = 1; previous = 7; current = 7; suspected = 0; arrived = 6; estimate = own };
+      rows = [] ∷ (value 5 ∷ value 0 ∷ value 7 ∷ []) ∷ (value 5 ∷ absent ∷ value 7 ∷ []) ∷ [];
+      end = record { decided = false; round = 2; previous = 7; current = 7; outbox = 6; estimate = value 5 ∷ value 0 ∷ value 7 ∷ [] };
+    }
+
+-- round t + 1 decides, though sets and estimates differ; the decision is not owed to a suspected process
+lastRound : Case
+lastRound =
+    record {
+      n = 3;
+      t = 1;
+      a = 0;
+      start = record { round = 2; previous = 7; current = 3; suspected = 4; arrived = 2; estimate = value 5 ∷ absent ∷ absent ∷ [] };
+      rows = [] ∷ (absent ∷ value 6 ∷ absent ∷ []) ∷ [] ∷ [];
+      end = record { decided = true; round = 2; previous = 7; current = 3; outbox = 2; estimate = value 5 ∷ value 6 ∷ absent ∷ [] };
+    }
+
+-- two rows show an entry that it lacks: the lowest-numbered one whose estimate arrived fills it
+lowest : ℕ → ℕ → ℕ → Case
+lowest arrived next v =
+    record {
+      n = 3;
+      t = 2;
+      a = 2;
+      start = record { round = 1; previous = 7; current = 7; suspected = 0; arrived = arrived; estimate = absent ∷ absent ∷ value 7 ∷ [] };
+      rows = (value 8 ∷ absent ∷ absent ∷ []) ∷ (value 9 ∷ absent ∷ absent ∷ []) ∷ [] ∷ [];
+      end = record { decided = false; round = 2; previous = 7; current = insertOf next 2; outbox = next; estimate = value v ∷ absent ∷ value 7 ∷ [] };
+    }
+
+pub table : List Case
+table =
+    agreement ∷ ownOld ∷ suspectedSender ∷ setsDiffer ∷ zeroOrAbsent (value 5 ∷ value 0 ∷ value 7 ∷ [])
+    ∷ zeroOrAbsent (value 5 ∷ absent ∷ value 7 ∷ []) ∷ lastRound ∷ lowest 3 3 8 ∷ lowest 2 2 9 ∷ []
+
+-- every case passes: the checker computes it from the definitions
+pub cases : allPass table ≡ true
+unfolding dataFrom rowsFrom word pred processOf sameBool shows passes allPass agreement ownOld suspectedSender setsDiffer zeroOrAbsent lastRound lowest table
+    has insertOf removeOf unionOf intersectionOf differenceOf allOf _&&_ _||_ same choose every each
+    entryOf sameEntry filledWord fillOf fillFrom sameTo sameAll
+    openOf arrivedOf nextOf peersOf filledOf agreedOf decidesOf owedOf decideOf advanceOf closeOf
+cases = refl

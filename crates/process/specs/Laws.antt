@@ -1,0 +1,347 @@
+-- Laws of the steps, which proofs cite instead of the definitions' text: a step by cases, who is in which set, when a close decides,
+-- and what each step keeps (every set within the n processes, the round at most t + 1, the length of `received`).
+use mathlib.Core.Path.{_≡_, refl, sym, _∙_}
+use mathlib.Core.Logic.{_≢_, _⊎_, inl, inr, ⊎-elim}
+use mathlib.Core.List.{List, [], _∷_}
+use mathlib.Core.Bool.{Bool, true, false, not}
+use Prim.Native.Nat.{ℕ, zero, suc, _+_, _-_, _^_, _≤_, _<_}
+use native.Mathlib.Omega.{arith}
+use lib.ListN.{length, getD, set, replicate, length-set}
+use lib.Pow.{pow-pos}
+use Rattle.sets.specs.Set.{has, removeOf, allOf}
+use Rattle.sets.specs.Truth.{_&&_, _||_, same, below, choose, and-l, and-r, and-mk, and-cases, and-on-l, or-mk-l, or-mk-r, or-off-l, or-none-l, or-none-r, not-on, not-off, off-by, clash, same-on, same-mk, same-off, same-not, choose-on, choose-off}
+use Rattle.sets.specs.Laws.{has-insert, has-remove, has-union, has-intersection, has-difference, has-all, nothing-in, empty-by, all-lt, insert-lt, remove-lt, difference-lt, intersection-lt}
+use Rattle.global_data.specs.declared.GlobalData.{GlobalData}
+use Rattle.global_data.specs.GlobalData.{nothingOf, oneOf, sameTo, sameAll}
+use Rattle.global_data.specs.Laws.{fillFrom-lt}
+use Rattle.process.specs.declared.Process.{Process}
+use Rattle.process.specs.Steps.{idleOf, takesPart, openOf, startOf, receiveOf, arrivedOf, dueOf, nextOf, peersOf, filledOf, agreedOf, decidesOf, owedOf, decideOf, advanceOf, closeOf, adoptOf, sendOf, suspectOf}
+
+-- ---- a step by cases
+-- what holds of both holds of the chosen one
+choose-by : {A : Type 0} (P : A → Type 0) (b : Bool) (x y : A) → (b ≡ true → P x) → (b ≡ false → P y) → P (choose b x y)
+unfolding choose
+choose-by P true x y f g = f refl
+choose-by P false x y f g = g refl
+
+-- step 5 where it does not decide, with the estimate g filled already
+unfoldable pub advanceTo : ℕ → GlobalData → Process → Process
+advanceTo a g p =
+    openOf a
+    (record {
+      round = p .round;
+      decided = p .decided;
+      previous = p .current;
+      current = nextOf a p;
+      suspected = p .suspected;
+      outbox = p .outbox;
+      estimate = g;
+      received = p .received;
+    })
+
+pub advance-filled : (a : ℕ) (rows : ℕ → GlobalData) (p : Process) → advanceOf a rows p ≡ advanceTo a (filledOf a rows p) p
+unfolding advanceOf advanceTo
+advance-filled a rows p = refl
+
+module _ (n t a : ℕ) (rows : ℕ → GlobalData) (p : Process) where
+  pub close-on : decidesOf n t a rows p ≡ true → closeOf n t a rows p ≡ decideOf (filledOf a rows p) (owedOf n a p) p
+  unfolding closeOf
+  close-on = choose-on _ _ _
+
+  pub close-off : decidesOf n t a rows p ≡ false → closeOf n t a rows p ≡ advanceOf a rows p
+  unfolding closeOf
+  close-off = choose-off _ _ _
+
+  close-by : (P : Process → Type 0) → (decidesOf n t a rows p ≡ true → P (decideOf (filledOf a rows p) (owedOf n a p) p))
+      → (decidesOf n t a rows p ≡ false → P (advanceOf a rows p)) → P (closeOf n t a rows p)
+  unfolding closeOf
+  close-by P = choose-by P _ _ _
+
+module _ (n a k : ℕ) (g : GlobalData) (p : Process) where
+  pub adopt-on : takesPart p ≡ true → adoptOf n a k g p ≡ decideOf g (removeOf (owedOf n a p) k) p
+  unfolding adoptOf
+  adopt-on = choose-on _ _ _
+
+  pub adopt-off : takesPart p ≡ false → adoptOf n a k g p ≡ p
+  unfolding adoptOf
+  adopt-off = choose-off _ _ _
+
+  adopt-by : (P : Process → Type 0) → P (decideOf g (removeOf (owedOf n a p) k) p) → P p → P (adoptOf n a k g p)
+  unfolding adoptOf
+  adopt-by P x y = choose-by P _ _ _ (λ e. x) (λ e. y)
+
+-- ---- who is in which set
+module _ (a : ℕ) (p : Process) (y : ℕ) where
+  pub has-arrived : has (arrivedOf a p) y ≡ (same y a || has (getD (p .received) (p .round - 1) 0) y)
+  unfolding arrivedOf
+  has-arrived = has-insert _ _ _
+
+  pub has-next : has (nextOf a p) y ≡ (has (p .current) y && has (arrivedOf a p) y)
+  unfolding nextOf
+  has-next = has-intersection _ _ _
+
+  pub has-peers : has (peersOf a p) y ≡ (has (nextOf a p) y && not (same y a))
+  unfolding peersOf
+  has-peers = has-remove _ _ _
+
+  pub has-owed : (n : ℕ) → has (owedOf n a p) y ≡ ((below y n && not (same y a)) && not (has (p .suspected) y))
+  unfolding owedOf
+  has-owed n =
+      rw (has-difference, has-remove, has-all)
+
+-- a close is due exactly when each member of the current set has arrived or is suspected
+module _ (a : ℕ) (p : Process) where
+  pub due-on : dueOf a p ≡ true → (y : ℕ) → has (p .current) y ≡ true → (has (arrivedOf a p) y || has (p .suspected) y) ≡ true
+  unfolding dueOf
+  due-on e y h =
+      let z = sym (has-difference _ _ y) ∙ nothing-in _ (same-on _ _ e) y in
+      sym (has-union _ _ y) ∙ not-off _ (sym (and-on-l _ _ h) ∙ z)
+
+  pub due-mk : (n : ℕ) → p .current < 2 ^ n
+      → ((y : ℕ) → has (p .current) y ≡ true → (has (arrivedOf a p) y || has (p .suspected) y) ≡ true) → dueOf a p ≡ true
+  unfolding dueOf
+  due-mk n l h =
+      same-mk _ _
+      (empty-by n _ (difference-lt n _ _ l)
+      (λ y k. has-difference _ _ y ∙ off-by _ (λ e. clash _ (has-union _ _ y ∙ h y (and-l _ _ e)) (not-on _ (and-r _ _ e)))))
+
+-- ---- step 5: when a close decides
+module _ (n t a : ℕ) (rows : ℕ → GlobalData) (p : Process) where
+  pub last-decides : p .round ≡ t + 1 → decidesOf n t a rows p ≡ true
+  unfolding decidesOf
+  last-decides e = or-mk-l _ _ (same-mk _ _ e)
+
+  pub decides-by : p .previous ≡ nextOf a p → sameTo n (filledOf a rows p) (p .estimate) ≡ true
+      → sameAll 16 n (peersOf a p) rows (filledOf a rows p) ≡ true → decidesOf n t a rows p ≡ true
+  unfolding decidesOf agreedOf
+  decides-by e f g = or-mk-r _ _ (and-mk _ _ (same-mk _ _ e) (and-mk _ _ f g))
+
+  -- in an earlier round it decides by the test alone
+  module _ (e : decidesOf n t a rows p ≡ true) (early : p .round ≢ t + 1) where
+    decides-agreed : agreedOf n a rows p ≡ true
+    unfolding decidesOf
+    decides-agreed = sym (or-off-l _ _ (same-off _ _ early)) ∙ e
+
+    pub decides-set : p .previous ≡ nextOf a p
+    unfolding agreedOf
+    decides-set = same-on _ _ (and-l _ _ decides-agreed)
+
+    pub decides-own : sameTo n (filledOf a rows p) (p .estimate) ≡ true
+    unfolding agreedOf
+    decides-own = and-l _ _ (and-r _ _ decides-agreed)
+
+    pub decides-peers : sameAll 16 n (peersOf a p) rows (filledOf a rows p) ≡ true
+    unfolding agreedOf
+    decides-peers = and-r _ _ (and-r _ _ decides-agreed)
+
+  -- where it does not decide, the round is not the last, and a part of the test fails
+  module _ (e : decidesOf n t a rows p ≡ false) where
+    pub open-round : p .round ≢ t + 1
+    unfolding decidesOf
+    open-round = same-not _ _ (or-none-l _ _ e)
+
+    pub open-test : (p .previous ≢ nextOf a p)
+        ⊎ ((sameTo n (filledOf a rows p) (p .estimate) ≡ false) ⊎ (sameAll 16 n (peersOf a p) rows (filledOf a rows p) ≡ false))
+    unfolding decidesOf agreedOf
+    open-test = ⊎-elim (λ f. inl (same-not _ _ f)) (λ f. inr (and-cases _ _ f)) (and-cases _ _ (or-none-r _ _ e))
+
+-- ---- what each step keeps: every set and present mark is within the n processes, and the round is at most t + 1
+pub record Within (n t : ℕ) (p : Process) : Type 0 where
+  pub round : p .round ≤ t + 1
+  pub previous : p .previous < 2 ^ n
+  pub current : p .current < 2 ^ n
+  pub suspected : p .suspected < 2 ^ n
+  pub outbox : p .outbox < 2 ^ n
+  pub estimate : p .estimate .present < 2 ^ n
+  pub received : (k : ℕ) → getD (p .received) k 0 < 2 ^ n
+
+pub next-lt : (n a : ℕ) (p : Process) → p .current < 2 ^ n → nextOf a p < 2 ^ n
+unfolding nextOf
+next-lt n a p h = intersection-lt n _ _ h
+
+pub owed-lt : (n a : ℕ) (p : Process) → owedOf n a p < 2 ^ n
+unfolding owedOf
+owed-lt n a p = difference-lt n _ _ (remove-lt n _ _ (all-lt n))
+
+pub filled-lt : (n a : ℕ) (rows : ℕ → GlobalData) (p : Process) → ((q : ℕ) → rows q .present < 2 ^ n)
+    → p .estimate .present < 2 ^ n → filledOf a rows p .present < 2 ^ n
+unfolding filledOf
+filled-lt n a rows p h e = fillFrom-lt _ _ _ n 16 e (λ q l m. h q)
+
+-- a list of words below b, with one of them replaced
+set-lt : (b : ℕ) (l : List ℕ) (i v k : ℕ) → v < b → getD l k 0 < b → getD (set l i v) k 0 < b
+set-lt b [] i v k hv h = h
+set-lt b (x ∷ l) zero v zero hv h = hv
+set-lt b (x ∷ l) zero v (suc k) hv h = h
+set-lt b (x ∷ l) (suc i) v zero hv h = h
+set-lt b (x ∷ l) (suc i) v (suc k) hv h = set-lt b l i v k hv h
+
+zeros : (m k : ℕ) → _≡_ {A = ℕ} (getD (replicate m 0) k 0) 0
+zeros zero k = refl
+zeros (suc m) zero = refl
+zeros (suc m) (suc k) = zeros m k
+
+module _ (n t : ℕ) where
+  pub within-idle : Within n t idleOf
+  unfolding idleOf nothingOf
+  within-idle =
+      let z = pow-pos n in
+      record {
+        round = omega arith;
+        previous = z;
+        current = z;
+        suspected = z;
+        outbox = z;
+        estimate = z;
+        received = λ k. rw (zeros 16 k) z;
+      }
+
+  module _ (p : Process) (w : Within n t p) where
+    pub within-open : (a : ℕ) → p .round ≤ t → Within n t (openOf a p)
+    unfolding openOf
+    within-open a h =
+        record {
+          round = omega arith;
+          previous = w .previous;
+          current = w .current;
+          suspected = w .suspected;
+          outbox = remove-lt n _ _ (w .current);
+          estimate = w .estimate;
+          received = w .received;
+        }
+
+    pub within-decide : (g : GlobalData) (m : ℕ) → g .present < 2 ^ n → m < 2 ^ n → Within n t (decideOf g m p)
+    unfolding decideOf
+    within-decide g m hg hm =
+        record {
+          round = w .round;
+          previous = w .previous;
+          current = w .current;
+          suspected = w .suspected;
+          outbox = hm;
+          estimate = hg;
+          received = w .received;
+        }
+
+    pub within-send : (b : ℕ) → Within n t (sendOf b p)
+    unfolding sendOf
+    within-send b =
+        record {
+          round = w .round;
+          previous = w .previous;
+          current = w .current;
+          suspected = w .suspected;
+          outbox = remove-lt n _ _ (w .outbox);
+          estimate = w .estimate;
+          received = w .received;
+        }
+
+    pub within-suspect : (b : ℕ) → b < n → Within n t (suspectOf b p)
+    unfolding suspectOf
+    within-suspect b h =
+        record {
+          round = w .round;
+          previous = w .previous;
+          current = w .current;
+          suspected = insert-lt n _ _ (w .suspected) h;
+          outbox = w .outbox;
+          estimate = w .estimate;
+          received = w .received;
+        }
+
+    pub within-receive : (y r : ℕ) → y < n → Within n t (receiveOf y r p)
+    unfolding receiveOf
+    within-receive y r h =
+        choose-by (Within n t) _ _ _
+        (λ e.
+        record {
+          round = w .round;
+          previous = w .previous;
+          current = w .current;
+          suspected = w .suspected;
+          outbox = w .outbox;
+          estimate = w .estimate;
+          received = λ k. set-lt (2 ^ n) (p .received) _ _ k (insert-lt n _ _ (w .received (r - 1)) h) (w .received k);
+        })
+        (λ e. w)
+
+    pub within-adopt : (a k : ℕ) (g : GlobalData) → g .present < 2 ^ n → Within n t (adoptOf n a k g p)
+    within-adopt a k g h = adopt-by n a k g p (Within n t) (within-decide g _ h (remove-lt n _ _ (owed-lt n a p))) w
+
+  module _ (p : Process) (w : Within n t p) where
+    pub within-start : (a v : ℕ) → a < n → Within n t (startOf n a v p)
+    unfolding startOf oneOf
+    within-start a v h =
+        within-open _
+        (record {
+          round = omega arith;
+          previous = all-lt n;
+          current = difference-lt n _ _ (all-lt n);
+          suspected = w .suspected;
+          outbox = w .outbox;
+          estimate = insert-lt n _ _ (pow-pos n) h;
+          received = w .received;
+        })
+        a (omega arith)
+
+    within-advance : (a : ℕ) (rows : ℕ → GlobalData) → ((q : ℕ) → rows q .present < 2 ^ n) → p .round ≤ t
+        → Within n t (advanceOf a rows p)
+    unfolding advanceOf
+    within-advance a rows h l =
+        within-open _
+        (record {
+          round = w .round;
+          previous = w .current;
+          current = next-lt n a p (w .current);
+          suspected = w .suspected;
+          outbox = w .outbox;
+          estimate = filled-lt n a rows p h (w .estimate);
+          received = w .received;
+        })
+        a l
+
+    pub within-close : (a : ℕ) (rows : ℕ → GlobalData) → ((q : ℕ) → rows q .present < 2 ^ n) → Within n t (closeOf n t a rows p)
+    within-close a rows h =
+        close-by n t a rows p (Within n t)
+        (λ e. within-decide p w _ _ (filled-lt n a rows p h (w .estimate)) (owed-lt n a p))
+        (λ e. within-advance a rows h (omega (arith, open-round n t a rows p e)))
+
+-- ---- `received` keeps its length
+abbrev Kept : Process → Process → Type 0
+Kept p q = length (q .received) ≡ length (p .received)
+
+pub idle-length : length (idleOf .received) ≡ 16
+unfolding idleOf
+idle-length = refl
+
+module _ (p : Process) where
+  pub open-length : (a : ℕ) → Kept p (openOf a p)
+  unfolding openOf
+  open-length a = refl
+
+  pub start-length : (n a v : ℕ) → Kept p (startOf n a v p)
+  unfolding startOf openOf
+  start-length n a v = refl
+
+  pub receive-length : (y r : ℕ) → Kept p (receiveOf y r p)
+  unfolding receiveOf
+  receive-length y r = choose-by (Kept p) _ _ _ (λ e. simp length-set) (λ e. refl)
+
+  pub decide-length : (g : GlobalData) (m : ℕ) → Kept p (decideOf g m p)
+  unfolding decideOf
+  decide-length g m = refl
+
+  pub close-length : (n t a : ℕ) (rows : ℕ → GlobalData) → Kept p (closeOf n t a rows p)
+  unfolding advanceOf openOf
+  close-length n t a rows = close-by n t a rows p (Kept p) (λ e. decide-length _ _) (λ e. refl)
+
+  pub adopt-length : (n a k : ℕ) (g : GlobalData) → Kept p (adoptOf n a k g p)
+  adopt-length n a k g = adopt-by n a k g p (Kept p) (decide-length _ _) refl
+
+  pub send-length : (b : ℕ) → Kept p (sendOf b p)
+  unfolding sendOf
+  send-length b = refl
+
+  pub suspect-length : (b : ℕ) → Kept p (suspectOf b p)
+  unfolding suspectOf
+  suspect-length b = refl

@@ -1,0 +1,184 @@
+-- The protocol steps of document 01, 1 to 7, as they change one process. `n` is how many processes there are, `a` the number of this one, from 0.
+use mathlib.Core.List.{List, []}
+use mathlib.Core.Bool.{Bool, true, false, not}
+use Prim.Native.Nat.{ℕ, _+_, _-_}
+use lib.ListN.{getD, set, replicate}
+use Rattle.sets.specs.Set.{has, insertOf, removeOf, unionOf, intersectionOf, differenceOf, allOf, emptySet}
+use Rattle.sets.specs.Truth.{_&&_, _||_, same, below, choose}
+use Rattle.global_data.specs.declared.GlobalData.{GlobalData}
+use Rattle.global_data.specs.GlobalData.{noData, nothingOf, oneOf, fillFrom, sameTo, sameAll}
+use Rattle.process.specs.declared.Process.{Process}
+
+-- what stands outside an array of processes
+abbrev pub noProcess : Process
+noProcess = record { round = 0; decided = false; previous = 0; current = 0; suspected = 0; outbox = 0; estimate = noData; received = [] }
+
+-- a process that has not started
+unfoldable pub idleOf : Process
+idleOf =
+    record {
+      round = 0;
+      decided = false;
+      previous = emptySet;
+      current = emptySet;
+      suspected = emptySet;
+      outbox = emptySet;
+      estimate = nothingOf;
+      received = replicate 16 0;
+    }
+
+-- it has started and not decided
+unfoldable pub takesPart : Process → Bool
+takesPart p = below 0 (p .round) && not (p .decided)
+
+-- ---- step 2, opening a round: it owes its estimate to each other member of its current set. Which estimate that is, the bench holds.
+unfoldable pub openOf : ℕ → Process → Process
+openOf a p =
+    record {
+      round = p .round + 1;
+      decided = p .decided;
+      previous = p .previous;
+      current = p .current;
+      suspected = p .suspected;
+      outbox = removeOf (p .current) a;
+      estimate = p .estimate;
+      received = p .received;
+    }
+
+-- ---- step 1, start: the estimate is absent but for its own value; previous: all n; current: all n without those it suspects; round 1 opens
+unfoldable pub startOf : ℕ → ℕ → ℕ → Process → Process
+startOf n a v p =
+    openOf a
+    (record {
+      round = 0;
+      decided = p .decided;
+      previous = allOf n;
+      current = differenceOf (allOf n) (p .suspected);
+      suspected = p .suspected;
+      outbox = p .outbox;
+      estimate = oneOf a v;
+      received = p .received;
+    })
+
+-- ---- step 3, arrival of an estimate of round r from y: kept for a round not yet reached, or for this round from the current set; else nothing changes
+unfoldable pub keeps : Process → ℕ → ℕ → Bool
+keeps p y r = not (p .decided) && (below (p .round) r || (same r (p .round) && has (p .current) y))
+
+unfoldable pub receiveOf : ℕ → ℕ → Process → Process
+receiveOf y r p =
+    choose (keeps p y r)
+    (record {
+      round = p .round;
+      decided = p .decided;
+      previous = p .previous;
+      current = p .current;
+      suspected = p .suspected;
+      outbox = p .outbox;
+      estimate = p .estimate;
+      received = set (p .received) (r - 1) (insertOf (getD (p .received) (r - 1) 0) y);
+    })
+    p
+
+-- ---- step 4, close: whose estimate of this round has arrived, its own among them
+unfoldable pub arrivedOf : ℕ → Process → ℕ
+arrivedOf a p = insertOf (getD (p .received) (p .round - 1) 0) a
+
+-- each member of the current set has arrived or is suspected
+unfoldable pub dueOf : ℕ → Process → Bool
+dueOf a p = same (differenceOf (p .current) (unionOf (arrivedOf a p) (p .suspected))) emptySet
+
+-- next (after-set): the members whose estimate arrived, suspected or not
+unfoldable pub nextOf : ℕ → Process → ℕ
+nextOf a p = intersectionOf (p .current) (arrivedOf a p)
+
+-- the others of the next set; its own estimate it holds itself
+unfoldable pub peersOf : ℕ → Process → ℕ
+peersOf a p = removeOf (nextOf a p) a
+
+-- each absent entry takes the value that the lowest-numbered member of the next set shows. `rows p` is what process p sent in this round.
+unfoldable pub filledOf : ℕ → (ℕ → GlobalData) → Process → GlobalData
+filledOf a rows p = fillFrom 16 (peersOf a p) rows (p .estimate)
+
+-- ---- step 5, the test: previous is next, and the new estimate equals each arrived one of the next set, its own old one included
+unfoldable pub agreedOf : ℕ → ℕ → (ℕ → GlobalData) → Process → Bool
+agreedOf n a rows p =
+    same (p .previous) (nextOf a p)
+    && (sameTo n (filledOf a rows p) (p .estimate) && sameAll 16 n (peersOf a p) rows (filledOf a rows p))
+
+-- it decides if the round is t + 1 or the test holds
+unfoldable pub decidesOf : ℕ → ℕ → ℕ → (ℕ → GlobalData) → Process → Bool
+decidesOf n t a rows p = same (p .round) (t + 1) || agreedOf n a rows p
+
+-- ---- step 6, after deciding: whom it owes the decision, all but itself and those it suspects by then
+unfoldable pub owedOf : ℕ → ℕ → Process → ℕ
+owedOf n a p = differenceOf (removeOf (allOf n) a) (p .suspected)
+
+-- it has decided on g, and owes that to the members of m; estimates still owed lapse
+unfoldable pub decideOf : GlobalData → ℕ → Process → Process
+decideOf g m p =
+    record {
+      round = p .round;
+      decided = true;
+      previous = p .previous;
+      current = p .current;
+      suspected = p .suspected;
+      outbox = m;
+      estimate = g;
+      received = p .received;
+    }
+
+-- ---- step 5, otherwise: previous becomes current, current becomes next, and the next round opens
+unfoldable pub advanceOf : ℕ → (ℕ → GlobalData) → Process → Process
+advanceOf a rows p =
+    openOf a
+    (record {
+      round = p .round;
+      decided = p .decided;
+      previous = p .current;
+      current = nextOf a p;
+      suspected = p .suspected;
+      outbox = p .outbox;
+      estimate = filledOf a rows p;
+      received = p .received;
+    })
+
+-- steps 4 and 5 together
+unfoldable pub closeOf : ℕ → ℕ → ℕ → (ℕ → GlobalData) → Process → Process
+closeOf n t a rows p =
+    choose (decidesOf n t a rows p) (decideOf (filledOf a rows p) (owedOf n a p) p) (advanceOf a rows p)
+
+-- ---- step 7, a decision g of k arrives: a started undecided process takes it over, and does not owe it to k; any other is unchanged
+unfoldable pub adoptOf : ℕ → ℕ → ℕ → GlobalData → Process → Process
+adoptOf n a k g p = choose (takesPart p) (decideOf g (removeOf (owedOf n a p) k) p) p
+
+-- ---- a send: its message is 0, the decision, once it has decided, else the estimate of its round
+unfoldable pub messageOf : Process → ℕ
+messageOf p = choose (p .decided) 0 (p .round)
+
+-- what it owed b it no longer owes
+unfoldable pub sendOf : ℕ → Process → Process
+sendOf b p =
+    record {
+      round = p .round;
+      decided = p .decided;
+      previous = p .previous;
+      current = p .current;
+      suspected = p .suspected;
+      outbox = removeOf (p .outbox) b;
+      estimate = p .estimate;
+      received = p .received;
+    }
+
+-- ---- it suspects b (notices that b has stopped); no debt ends
+unfoldable pub suspectOf : ℕ → Process → Process
+suspectOf b p =
+    record {
+      round = p .round;
+      decided = p .decided;
+      previous = p .previous;
+      current = p .current;
+      suspected = insertOf (p .suspected) b;
+      outbox = p .outbox;
+      estimate = p .estimate;
+      received = p .received;
+    }

@@ -1,0 +1,273 @@
+// One process's own part in the protocol: what it holds, and its steps. A host with a real network can drive it.
+ghost use mathlib.Core.Path.{_≡_};
+ghost use Prim.Native.Nat.{_<_, _≤_};
+ghost use Rattle.global_data.specs.GlobalData.{rowsOf};
+ghost use Rattle.process.specs.Steps.{idleOf, takesPart, openOf, startOf, keeps, receiveOf, arrivedOf, dueOf, nextOf, peersOf, filledOf, agreedOf, decidesOf, owedOf, decideOf, closeOf, adoptOf, messageOf, sendOf, suspectOf};
+ghost use Rattle.process.specs.Laws.{advanceTo};
+use global_data::GlobalData;
+use global_data::fill_from;
+use global_data::same_all;
+
+// Document 01's terminal. Sets are bits, process i at bit i from 0.
+pub struct Process {
+    // 0 before its start
+    pub round: u8,
+    pub decided: bool,
+    // before-set and now-set
+    pub previous: u16,
+    pub current: u16,
+    // those it has noticed
+    pub suspected: u16,
+    // those whom it owes its message
+    pub outbox: u16,
+    // its estimate, and once it has decided its decision
+    pub estimate: GlobalData,
+    // for each round from 1, whose estimates have arrived and are kept
+    pub received: [u16; 16],
+}
+
+// The steps. `n` is how many processes there are, `a` the number of this one, from 0; `rows` has what each process sent in this round.
+impl Process {
+    // It has not started.
+    pub fn idle() -> Process
+        ensures { λ r. ⌜ r ≡ idleOf ⌝ }
+    {
+        Process {
+            round: 0,
+            decided: false,
+            previous: 0,
+            current: 0,
+            suspected: 0,
+            outbox: 0,
+            estimate: GlobalData::nothing(),
+            received: [0; 16],
+        }
+    }
+
+    // It has started and not decided.
+    pub fn takes_part(self) -> bool
+        ensures { λ r. ⌜ r ≡ takesPart self ⌝ }
+    {
+        (0 < self.round) & !self.decided
+    }
+
+    // Step 2: the next round opens, and it owes its estimate to the others of its current set.
+    fn open_round(mut self, a: usize) -> Process
+        requires { ⌜ a < 16 ⌝ }
+        requires { ⌜ self .round < 255 ⌝ }
+        ensures { λ r. ⌜ r ≡ openOf a self ⌝ }
+    {
+        let others = sets::remove(self.current, a);
+        self.round = self.round + 1;
+        self.outbox = others;
+        self
+    }
+
+    // Step 1: it starts with a value, and round 1 opens.
+    pub fn start(mut self, n: usize, a: usize, value: u32) -> Process
+        requires { ⌜ n ≤ 16 ⌝ }
+        requires { ⌜ a < 16 ⌝ }
+        ensures { λ r. ⌜ r ≡ startOf n a value self ⌝ }
+    {
+        let all = sets::all(n);
+        let current = sets::difference(all, self.suspected);
+        let g = GlobalData::one(a, value);
+        self.round = 0;
+        self.previous = all;
+        self.current = current;
+        self.estimate = g;
+        self.open_round(a)
+    }
+
+    // Whether an estimate of round r from y is kept.
+    fn keeps(self, y: usize, r: usize) -> bool
+        requires { ⌜ y < 16 ⌝ }
+        ensures { λ b. ⌜ b ≡ keeps self y r ⌝ }
+    {
+        let at = self.round as usize;
+        !self.decided & ((at < r) | ((r == at) & sets::member(self.current, y)))
+    }
+
+    // Step 3: the estimate of round r from y arrives.
+    pub fn receive(mut self, y: usize, r: usize) -> Process
+        requires { ⌜ y < 16 ⌝ }
+        requires { ⌜ (1 ≤ r) × (r ≤ 16) ⌝ }
+        ensures { λ p. ⌜ p ≡ receiveOf y r self ⌝ }
+    {
+        if self.keeps(y, r) {
+            let k = r - 1;
+            let m = sets::insert(self.received[k], y);
+            self.received[k] = m;
+        }
+        self
+    }
+
+    // Whose estimate of this round has arrived, its own among them.
+    fn arrived(self, a: usize) -> u16
+        requires { ⌜ a < 16 ⌝ }
+        requires { ⌜ (1 ≤ self .round) × (self .round ≤ 16) ⌝ }
+        ensures { λ r. ⌜ r ≡ arrivedOf a self ⌝ }
+    {
+        let k = (self.round - 1) as usize;
+        sets::insert(self.received[k], a)
+    }
+
+    // Step 4: each member of the current set has arrived or is suspected.
+    pub fn due(self, a: usize) -> bool
+        requires { ⌜ a < 16 ⌝ }
+        requires { ⌜ (1 ≤ self .round) × (self .round ≤ 16) ⌝ }
+        ensures { λ r. ⌜ r ≡ dueOf a self ⌝ }
+    {
+        sets::difference(self.current, sets::union(self.arrived(a), self.suspected)) == 0
+    }
+
+    // Document 01's after-set: the members whose estimate arrived, suspected or not.
+    fn next(self, a: usize) -> u16
+        requires { ⌜ a < 16 ⌝ }
+        requires { ⌜ (1 ≤ self .round) × (self .round ≤ 16) ⌝ }
+        ensures { λ r. ⌜ r ≡ nextOf a self ⌝ }
+    {
+        sets::intersection(self.current, self.arrived(a))
+    }
+
+    // The others of the next set.
+    fn peers(self, a: usize) -> u16
+        requires { ⌜ a < 16 ⌝ }
+        requires { ⌜ (1 ≤ self .round) × (self .round ≤ 16) ⌝ }
+        ensures { λ r. ⌜ r ≡ peersOf a self ⌝ }
+    {
+        sets::remove(self.next(a), a)
+    }
+
+    // The estimate with its absent entries filled from the peers' rows.
+    fn filled(self, a: usize, rows: [GlobalData; 16]) -> GlobalData
+        requires { ⌜ a < 16 ⌝ }
+        requires { ⌜ (1 ≤ self .round) × (self .round ≤ 16) ⌝ }
+        ensures { λ r. ⌜ r ≡ filledOf a (rowsOf rows) self ⌝ }
+    {
+        let g = self.estimate;
+        fill_from(g, self.peers(a), rows)
+    }
+
+    // Step 5, the test, where g is the filled estimate: its sets agree, and g equals each arrived estimate, its own old one included.
+    fn agreed(self, n: usize, a: usize, rows: [GlobalData; 16], g: GlobalData) -> bool
+        requires { ⌜ n ≤ 16 ⌝ }
+        requires { ⌜ a < 16 ⌝ }
+        requires { ⌜ (1 ≤ self .round) × (self .round ≤ 16) ⌝ }
+        requires { ⌜ g ≡ filledOf a (rowsOf rows) self ⌝ }
+        ensures { λ r. ⌜ r ≡ agreedOf n a (rowsOf rows) self ⌝ }
+    {
+        let next = self.next(a);
+        if self.previous != next {
+            return false;
+        }
+        let own = self.estimate;
+        if g.same(own, n) {
+            same_all(g, sets::remove(next, a), rows, n)
+        } else {
+            false
+        }
+    }
+
+    // Whether the close decides, where g is the filled estimate.
+    fn decides(self, n: usize, t: usize, a: usize, rows: [GlobalData; 16], g: GlobalData) -> bool
+        requires { ⌜ (n ≤ 16) × (t < 16) ⌝ }
+        requires { ⌜ a < 16 ⌝ }
+        requires { ⌜ (1 ≤ self .round) × (self .round ≤ 16) ⌝ }
+        requires { ⌜ g ≡ filledOf a (rowsOf rows) self ⌝ }
+        ensures { λ r. ⌜ r ≡ decidesOf n t a (rowsOf rows) self ⌝ }
+    {
+        if self.round as usize == t + 1 {
+            true
+        } else {
+            self.agreed(n, a, rows, g)
+        }
+    }
+
+    // Step 5 where it does not decide: the sets move on, and the next round opens with g, the filled estimate.
+    fn advance(mut self, a: usize, g: GlobalData) -> Process
+        requires { ⌜ a < 16 ⌝ }
+        requires { ⌜ (1 ≤ self .round) × (self .round ≤ 16) ⌝ }
+        ensures { λ r. ⌜ r ≡ advanceTo a g self ⌝ }
+    {
+        let next = self.next(a);
+        self.previous = self.current;
+        self.current = next;
+        self.estimate = g;
+        self.open_round(a)
+    }
+
+    // Steps 4 and 5: it closes its round. The filled estimate is worked out once.
+    pub fn close(self, n: usize, t: usize, a: usize, rows: [GlobalData; 16]) -> Process
+        requires { ⌜ (n ≤ 16) × (t < 16) ⌝ }
+        requires { ⌜ a < 16 ⌝ }
+        requires { ⌜ (1 ≤ self .round) × (self .round ≤ 16) ⌝ }
+        ensures { λ r. ⌜ r ≡ closeOf n t a (rowsOf rows) self ⌝ }
+    {
+        let g = self.filled(a, rows);
+        if self.decides(n, t, a, rows, g) {
+            self.decide(g, self.owed(n, a))
+        } else {
+            self.advance(a, g)
+        }
+    }
+
+    // Whom it owes a decision: all but itself and those it suspects.
+    fn owed(self, n: usize, a: usize) -> u16
+        requires { ⌜ n ≤ 16 ⌝ }
+        requires { ⌜ a < 16 ⌝ }
+        ensures { λ r. ⌜ r ≡ owedOf n a self ⌝ }
+    {
+        sets::difference(sets::remove(sets::all(n), a), self.suspected)
+    }
+
+    // Step 6: it has decided on g, and owes that to the members of m.
+    fn decide(mut self, g: GlobalData, m: u16) -> Process
+        ensures { λ r. ⌜ r ≡ decideOf g m self ⌝ }
+    {
+        self.decided = true;
+        self.outbox = m;
+        self.estimate = g;
+        self
+    }
+
+    // Step 7: the decision g of k arrives.
+    pub fn adopt(self, n: usize, a: usize, k: usize, g: GlobalData) -> Process
+        requires { ⌜ n ≤ 16 ⌝ }
+        requires { ⌜ (a < 16) × (k < 16) ⌝ }
+        ensures { λ r. ⌜ r ≡ adoptOf n a k g self ⌝ }
+    {
+        if self.takes_part() {
+            self.decide(g, sets::remove(self.owed(n, a), k))
+        } else {
+            self
+        }
+    }
+
+    // The number of the message it sends: 0, the decision, once it has decided, else its round.
+    pub fn message(self) -> usize
+        ensures { λ r. ⌜ r ≡ messageOf self ⌝ }
+    {
+        if self.decided { 0 } else { self.round as usize }
+    }
+
+    // It has sent b what it owed.
+    pub fn send(mut self, b: usize) -> Process
+        requires { ⌜ b < 16 ⌝ }
+        ensures { λ r. ⌜ r ≡ sendOf b self ⌝ }
+    {
+        let rest = sets::remove(self.outbox, b);
+        self.outbox = rest;
+        self
+    }
+
+    // It suspects b (document 01: it notices that b has stopped).
+    pub fn suspect(mut self, b: usize) -> Process
+        requires { ⌜ b < 16 ⌝ }
+        ensures { λ r. ⌜ r ≡ suspectOf b self ⌝ }
+    {
+        let more = sets::insert(self.suspected, b);
+        self.suspected = more;
+        self
+    }
+}

@@ -1,0 +1,6 @@
+pub mod Count
+pub mod Each
+pub mod Every
+pub mod Laws
+pub mod Set
+pub mod Truth

@@ -1,0 +1,67 @@
+#!/bin/sh
+# Applies wrong edits of the rules, one at a time, to a copy under target/, and names the tests that fail.
+# Usage: ./mutations.sh [name...]    (from the package's directory)
+set -eu
+only=" $* "
+place=target/mutations
+rm -rf "$place/copy"
+mkdir -p "$place/copy"
+
+# try NAME FILE OLD NEW: OLD is a line's exact text (without indent), found once in FILE.
+try() {
+    case "$only" in "  " | *" $1 "*) ;; *) return 0 ;; esac
+    rm -rf "$place/copy"
+    mkdir -p "$place/copy"
+    cp -r Cargo.toml build.rs src tests "$place/copy/"
+    found=$(awk -v old="$3" '{ line = $0; sub(/^ +/, "", line) } line == old { n++ } END { print n + 0 }' "$2")
+    if [ "$found" != 1 ]; then
+        echo "$1: found $found times in $2" >&2
+        exit 1
+    fi
+    awk -v old="$3" -v new="$4" '{ line = $0; sub(/^ +/, "", line) } line == old { print new; next } { print }' \
+        "$2" > "$place/copy/$2"
+    echo "== $1"
+    log="$place/$1.log"
+    if (cd "$place/copy" && CARGO_TARGET_DIR=../build cargo test --release --offline --no-fail-fast) > "$log" 2>&1
+    then
+        echo "   NOT CAUGHT"
+    else
+        sed -n 's/^test \(.*\) \.\.\. FAILED$/   \1/p' "$log"
+        grep -h -o '^n [0-9]*, t [0-9]*\(, seed [0-9]*\(, record [0-9]*\)\{0,1\}\)\{0,1\}: [^{]*' "$log" | grep -v ': Found' | cut -c1-110 | sed 's/^/     /' | head -8 || true
+        grep -q '^error' "$log" && grep '^error' "$log" | grep -v 'test failed\|target' | sed 's/^/   /' || true
+    fi
+}
+
+try own-old-estimate-left-out src/step.rs \
+    'p.estimate.same(new) && members(next & !bit(a)).all(|m| self.sent_in(m, p.round).same(new))' \
+    'members(next & !bit(a)).all(|m| self.sent_in(m, p.round).same(new))'
+try zero-started-as-absent src/step.rs \
+    'p.estimate.present = bit(a);' 'p.estimate.present = if value == 0 { 0 } else { bit(a) };'
+try zero-filled-as-absent src/layout.rs \
+    'for i in members(other.present & !self.present) {' \
+    'let other = &GlobalData { present: members(other.present).filter(|&i| other.values[i] != 0).map(bit).sum(), ..*other }; for i in members(other.present & !self.present) {'
+try zero-shown-as-absent src/layout.rs \
+    '(self.present & bit(i) != 0).then(|| self.values[i])' '(self.present & bit(i) != 0 && self.values[i] != 0).then(|| self.values[i])'
+try received-dropped-once-suspected src/step.rs \
+    'let next = p.current & arrived;' 'let next = p.current & arrived & !p.suspected;'
+try decide-on-equal-estimates-alone src/step.rs \
+    'let settled = p.previous == next && self.all_equal(a, next, &estimate);' \
+    'let settled = self.all_equal(a, next, &estimate);'
+try estimate-changed-since-the-opening src/layout.rs \
+    '&self.sent[a * Bench::MAX + round as usize - 1]' '{ let _ = round; &self.processes[a].estimate }'
+
+# Not among the paper's slips: that each property check can fail.
+try never-decide-early src/step.rs \
+    'let settled = p.previous == next && self.all_equal(a, next, &estimate);' 'let settled = false;'
+try early-estimates-lost src/step.rs \
+    'if !p.decided && (early || expected) {' 'if !p.decided && expected {'
+try decision-sent-back src/step.rs \
+    'self.decide(b, self.processes[a].estimate, bit(a));' 'self.decide(b, self.processes[a].estimate, 0);'
+try close-without-waiting src/step.rs \
+    'if p.current & !(arrived | p.suspected) != 0 {' 'if false {'
+try suspect-twice src/step.rs \
+    'if self.crashed & bit(b) == 0 || p.suspected & bit(b) != 0 {' 'if self.crashed & bit(b) == 0 {'
+try value-changed-at-start src/step.rs \
+    'p.estimate.values[a] = value;' 'p.estimate.values[a] = value ^ 1;'
+try decide-again src/step.rs \
+    'if self.processes[b].round != 0 && !self.processes[b].decided {' 'if self.processes[b].round != 0 {'

@@ -1,0 +1,36 @@
+//! Nanoseconds a record, for `run` and for `step`, on random schedules of 16 processes.
+
+use reference::gen::schedule;
+use reference::{Bench, Cause};
+use std::hint::black_box;
+use std::time::Instant;
+
+const REPEATS: usize = 20;
+
+fn main() {
+    let schedules: Vec<Vec<u8>> = (1..=20).map(|seed| schedule(16, 15, seed, 0)).collect();
+    let records: usize = schedules.iter().map(|bytes| bytes.len() / Bench::RECORD).sum();
+    println!("{records} records, seeds 1 to 20, each {REPEATS} times");
+    report("run", records, || schedules.iter().for_each(|bytes| run(bytes)));
+    report("step", records, || schedules.iter().for_each(|bytes| step(bytes)));
+}
+
+fn report(name: &str, records: usize, work: impl Fn()) {
+    let clock = Instant::now();
+    (0..REPEATS).for_each(|_| work());
+    let each = clock.elapsed().as_nanos() as f64 / (records * REPEATS) as f64;
+    println!("{name}: {each:.1} ns a record");
+}
+
+fn run(bytes: &[u8]) {
+    let mut bench = Bench::open(16, 15).expect("a good size");
+    let (_, cause, _) = black_box(&mut bench).run(bytes, u32::MAX);
+    assert_eq!(cause, Cause::Done);
+}
+
+fn step(bytes: &[u8]) {
+    let mut bench = Bench::open(16, 15).expect("a good size");
+    for record in bytes.chunks(Bench::RECORD) {
+        assert_eq!(black_box(&mut bench).step(record), 0);
+    }
+}

@@ -1,0 +1,25 @@
+//! The protocol bench: n processes, the network and a failure detector, stepped by records.
+//!
+//! The state is the plain `repr(C)` layout of `layout`, changed in place.
+
+pub mod aggregates;
+pub mod check;
+pub mod counters;
+pub mod explore;
+pub mod gen;
+pub mod layout;
+#[cfg(feature = "proved")]
+pub mod proved;
+pub mod read;
+pub mod record;
+pub mod refusal;
+pub mod run;
+pub mod simulate;
+pub mod step;
+pub mod text;
+
+pub use counters::Counters;
+pub use layout::{Bench, GlobalData, Process};
+pub use record::{Event, Message, Record};
+pub use refusal::Refusal;
+pub use run::Cause;

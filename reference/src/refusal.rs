@@ -1,0 +1,38 @@
+//! The refusals and their numbers.
+
+/// Why a call was refused. The number is the one of the paper's table.
+#[derive(Clone, Copy, PartialEq, Eq, Debug)]
+#[repr(u8)]
+pub enum Refusal {
+    /// n not 1 to 16, or t not below n.
+    Size = 1,
+    /// A state that is not sound.
+    Damaged = 2,
+    /// A record not of 8 bytes.
+    Length = 3,
+    /// A kind not 1 to 6.
+    Kind = 4,
+    /// A field out of range, or an unused one not 0.
+    Field = 5,
+    /// The acting process has crashed.
+    Crashed = 6,
+    /// The protocol does not allow the record now.
+    NotDue = 7,
+    /// A close that lacks only an arrival or a suspicion.
+    Waiting = 8,
+    /// A crash when t have crashed.
+    CrashLimit = 9,
+    /// A lent slice of the wrong length.
+    Slice = 10,
+    /// The global data of an undecided process.
+    Undecided = 11,
+    /// The aggregate needs an entry that is absent.
+    Absent = 12,
+}
+
+impl Refusal {
+    /// The paper's number.
+    pub fn number(self) -> u8 {
+        self as u8
+    }
+}

@@ -1,0 +1,248 @@
+//! Cases 1 to 8 of the paper, the examples of its table of refusals, and its five slips.
+
+use reference::simulate::simulate;
+use reference::text::encode;
+use reference::{Bench, GlobalData, Record, Refusal};
+
+/// A bench after the records of a text, all accepted. The first line is `open`.
+fn after(text: &str) -> Bench {
+    let bytes = encode(text).unwrap_or_else(|error| panic!("{error}"));
+    let (first, rest) = bytes.split_at(8);
+    let mut bench = Bench::open(first[1], first[2]).unwrap();
+    for (i, record) in rest.chunks(8).enumerate() {
+        assert_eq!(bench.step(record), 0, "record {} of {text}", i + 1);
+    }
+    bench
+}
+
+/// The answer to one more record, which leaves a refusing bench as it was.
+fn answer(bench: &Bench, line: &str) -> u8 {
+    let mut next = *bench;
+    let answer = next.step(&encode(line).unwrap());
+    assert!(answer == 0 || next == *bench);
+    answer
+}
+
+fn data(entries: &[Option<u32>]) -> GlobalData {
+    let mut data = GlobalData::ABSENT;
+    for (i, entry) in entries.iter().enumerate() {
+        data.values[i] = entry.unwrap_or(0);
+        data.present |= u16::from(entry.is_some()) << i;
+    }
+    data
+}
+
+/// Each of n processes sends and receives its estimate of a round.
+fn exchange(n: u8, round: u8) -> String {
+    let pairs = move |word: &str, end: String| -> String {
+        let others = |a| (1..=n).filter(move |&b| b != a).map(move |b| (a, b));
+        (1..=n).flat_map(others).map(|(a, b)| format!("{word} {a} {b}{end}\n")).collect()
+    };
+    pairs("send", String::new()) + &pairs("arrive", format!(" round {round}"))
+}
+
+#[test]
+fn case_1_alone() {
+    let bench = after("open 1 0\nstart 1 7\nclose 1");
+    assert_eq!(bench.processes[0].round, 1);
+    assert_eq!(bench.decision(1), Ok(data(&[Some(7)])));
+}
+
+#[test]
+fn case_2_no_crash() {
+    let closes = "close 1\nclose 2\nclose 3\n";
+    let text = "open 3 2\nstart 1 5\nstart 2 6\nstart 3 7\n".to_string() + &exchange(3, 1) + closes;
+    let bench = after(&text);
+    assert!(bench.processes.iter().all(|p| !p.decided));
+    let bench = after(&(text + &exchange(3, 2) + closes));
+    for number in 1..=3 {
+        assert_eq!(bench.processes[number as usize - 1].round, 2);
+        assert_eq!(bench.decision(number), Ok(data(&[Some(5), Some(6), Some(7)])));
+    }
+}
+
+#[test]
+fn case_3_value_0_is_present() {
+    let bench = after("open 1 0\nstart 1 0\nclose 1");
+    let mut out = [9];
+    assert_eq!(bench.global_data(1, &mut out), Ok(1));
+    assert_eq!(out, [0]);
+
+    // The program shows it as 0.
+    let input = encode("open 1 0\nstart 1 0\nclose 1").unwrap();
+    assert_eq!(simulate(&input), "1 0\n2 0\nT 1 1 0 1 0\n");
+
+    // It also fills another's absent entry.
+    let text = "open 2 0\nstart 1 0\nstart 2 5\nsend 1 2\nsend 2 1\narrive 1 2 round 1\nclose 2";
+    assert_eq!(after(text).decision(2), Ok(data(&[Some(0), Some(5)])));
+}
+
+const CASE_4: [u8; 13 * 8] = [
+    0, 2, 1, 0, 0, 0, 0, 0, //
+    1, 1, 0, 0, 40, 0, 0, 0, //
+    1, 2, 0, 0, 25, 0, 0, 0, //
+    2, 1, 2, 0, 0, 0, 0, 0, //
+    2, 2, 1, 0, 0, 0, 0, 0, //
+    3, 1, 2, 1, 0, 0, 0, 0, //
+    3, 2, 1, 1, 0, 0, 0, 0, //
+    4, 1, 0, 0, 0, 0, 0, 0, //
+    5, 2, 0, 0, 0, 0, 0, 0, //
+    2, 1, 2, 0, 0, 0, 0, 0, //
+    4, 1, 0, 0, 0, 0, 0, 0, //
+    6, 1, 2, 0, 0, 0, 0, 0, //
+    4, 1, 0, 0, 0, 0, 0, 0, //
+];
+
+#[test]
+fn case_4_program() {
+    let expected = "1 0\n2 0\n3 0\n4 0\n5 0\n6 0\n7 0\n8 0\n9 0\n10 8\n11 0\n12 0\n\
+                    T 1 2 0 1 40 25\nT 2 1 1 0 - 25\n";
+    assert_eq!(simulate(&CASE_4), expected);
+}
+
+#[test]
+fn case_5_sizes() {
+    assert!(Bench::open(16, 15).is_ok());
+    assert_eq!(Bench::open(17, 0), Err(Refusal::Size));
+    assert_eq!(Bench::open(0, 0), Err(Refusal::Size));
+}
+
+#[test]
+fn case_6_crash_limit() {
+    let mut bench = Bench::open(2, 1).unwrap();
+    for record in CASE_4[8..].chunks(8) {
+        bench.step(record);
+    }
+    assert_eq!(answer(&bench, "stop 1"), 9);
+    assert_eq!(answer(&bench, "stop 2"), 6);
+}
+
+#[test]
+fn case_7_received_then_suspected() {
+    let text = "open 3 2\nstart 1 1\nstart 2 2\nstart 3 3\nsend 1 2\nsend 1 3\nsend 2 1\nsend 3 1\n\
+                arrive 2 1 round 1\narrive 3 1 round 1\nstop 2\nnotice 1 2\nclose 1\n";
+    let p = after(text).processes[0];
+    assert_eq!((p.round, p.current), (2, 0b111));
+    assert!(p.estimate.same(&data(&[Some(1), Some(2), Some(3)])));
+}
+
+/// 2 crashed before it started; 1 and 3 hold equal estimates in round 2, but the sets differ.
+const CASE_8: &str = "open 3 2\nstop 2\nstart 1 1\nstart 3 3\nsend 1 2\nsend 1 3\nsend 3 1\nsend 3 2\n\
+                      arrive 1 3 round 1\narrive 3 1 round 1\nnotice 1 2\nnotice 3 2\nclose 1\nclose 3\n\
+                      send 1 3\nsend 3 1\narrive 3 1 round 2\n";
+
+#[test]
+fn case_8_equal_estimates_are_not_enough() {
+    let before = after(CASE_8);
+    let [one, _, three, ..] = before.processes;
+    assert!(one.estimate.same(&three.estimate));
+    assert_eq!((one.round, one.previous, one.current), (2, 0b111, 0b101));
+
+    let one = after(&(CASE_8.to_string() + "close 1")).processes[0];
+    assert_eq!((one.round, one.decided), (3, false));
+    assert_eq!((one.previous, one.current), (0b101, 0b101));
+}
+
+/// 3 reached only 2 with its value and crashed before 1 started, so 1 never expects it.
+/// In round 2 the sets of 1 are equal, and 2's estimate is the new one; 1's old one is not.
+#[test]
+fn slip_own_old_estimate() {
+    let text = "open 3 2\nstart 3 3\nsend 3 2\nstop 3\nnotice 1 3\nstart 1 1\nstart 2 2\n\
+                send 1 2\nsend 2 1\nsend 2 3\narrive 3 2 round 1\narrive 1 2 round 1\nclose 2\n\
+                arrive 2 1 round 1\nclose 1\nsend 1 2\nsend 2 1\nsend 2 3\narrive 2 1 round 2\n";
+    let before = after(text).processes[0];
+    assert_eq!((before.previous, before.current), (0b011, 0b011));
+    let p = after(&(text.to_string() + "close 1")).processes[0];
+    assert!(p.estimate.same(&data(&[Some(1), Some(2), Some(3)])));
+    assert_eq!((p.round, p.decided), (3, false));
+}
+
+/// The round-1 estimate of 2 arrives when 2 is in round 2 and knows 3: 1 must not see that.
+#[test]
+fn slip_estimate_of_the_opening() {
+    let text =
+        "open 3 2\nstart 1 1\nstart 2 2\nstart 3 3\nsend 3 2\nstop 3\nnotice 1 3\nsend 1 2\nsend 1 3\n\
+                send 2 1\nsend 2 3\narrive 1 2 round 1\narrive 3 2 round 1\nclose 2\n\
+                arrive 2 1 round 1\nclose 1";
+    let bench = after(text);
+    assert!(bench.processes[1].estimate.same(&data(&[Some(1), Some(2), Some(3)])));
+    assert!(bench.processes[0].estimate.same(&data(&[Some(1), Some(2)])));
+}
+
+#[test]
+fn examples_of_refusals() {
+    let new = Bench::open(3, 1).unwrap();
+    let mut damaged = new;
+    damaged.processes[1].round = 3;
+    assert_eq!(answer(&damaged, "bytes 04 01"), 2);
+    assert_eq!(answer(&new, "bytes 04 01 00 00 00 00 00"), 3);
+    assert_eq!(answer(&new, "bytes 07 01 00 00 00 00 00 00"), 4);
+    assert_eq!(answer(&new, "send 1 1"), 5);
+    assert_eq!(answer(&after("open 3 1\nstop 2"), "stop 2"), 6);
+    assert_eq!(answer(&new, "notice 1 2"), 7);
+    assert_eq!(answer(&Bench::open(1, 0).unwrap(), "stop 1"), 9);
+    assert_eq!(new.decision(1), Err(Refusal::Undecided));
+    assert_eq!(new.global_data(1, &mut [0; 2]), Err(Refusal::Slice));
+}
+
+#[test]
+fn refusal_7_of_each_kind() {
+    let new = Bench::open(3, 1).unwrap();
+    let started = after("open 3 1\nstart 1 1");
+    let crashed = after("open 3 1\nstop 2\nnotice 1 2");
+    assert_eq!(answer(&started, "start 1 1"), 7);
+    assert_eq!(answer(&new, "send 1 2"), 7);
+    assert_eq!(answer(&started, "arrive 1 2 round 1"), 7);
+    assert_eq!(answer(&crashed, "notice 1 2"), 7);
+    assert_eq!(answer(&crashed, "notice 3 2"), 0);
+    assert_eq!(answer(&new, "close 1"), 7);
+    assert_eq!(answer(&started, "close 1"), 7);
+    assert_eq!(answer(&after("open 1 0\nstart 1 1\nclose 1"), "close 1"), 7);
+}
+
+/// A debt stands though its receiver crashed, and whoever is suspected by the decision is left out.
+#[test]
+fn debts() {
+    let bench = after("open 3 1\nstart 1 1\nstop 2\nnotice 1 2");
+    assert_eq!(bench.processes[0].outbox, 0b110);
+    let text = "open 3 1\nstart 1 1\nstart 3 3\nsend 1 2\nsend 1 3\nsend 3 1\nstop 2\nnotice 1 2\n\
+                arrive 3 1 round 1\nclose 1\nsend 1 3\nnotice 3 2\narrive 1 3 round 1\nsend 3 2\nclose 3\n\
+                send 3 1\narrive 3 1 round 2\nclose 1\n";
+    let bench = after(text);
+    assert!(bench.processes[0].decided);
+    assert_eq!(bench.processes[0].outbox, 0b100);
+    // 3 decides by the decision of 1, so it owes none to 1, nor to 2.
+    let bench = after(&(text.to_string() + "send 1 3\narrive 1 3 decision"));
+    assert!(bench.processes[2].decided);
+    assert_eq!(bench.processes[2].outbox, 0);
+    assert_eq!(bench.decision(3), bench.decision(1));
+}
+
+/// What arrives where: kept, or only taken out of transit.
+#[test]
+fn arrivals() {
+    let text = "open 3 2\nstart 2 2\nsend 2 1\nstart 3 3\nsend 3 1\nstop 3\nnotice 1 3\n";
+    let early = after(&(text.to_string() + "arrive 2 1 round 1\narrive 3 1 round 1"));
+    assert_eq!(early.processes[0].received[0], 0b110);
+    assert_eq!(early.in_transit.iter().sum::<u16>(), 0);
+    let late = after(&(text.to_string() + "start 1 1\narrive 2 1 round 1\narrive 3 1 round 1"));
+    assert_eq!(late.processes[0].received[0], 0b010);
+    assert_eq!(late.in_transit.iter().sum::<u16>(), 0);
+    assert_eq!(answer(&late, "arrive 3 1 round 1"), 7);
+    // Kept before the start, but 3 is not expected: it is not in the next set.
+    let text = text.to_string() + "arrive 2 1 round 1\narrive 3 1 round 1\nstart 1 1\nsend 1 2\nclose 1";
+    let p = after(&text).processes[0];
+    assert_eq!((p.round, p.current), (2, 0b011));
+    assert!(p.estimate.same(&data(&[Some(1), Some(2)])));
+}
+
+#[test]
+fn a_decision_does_not_decide_the_unstarted() {
+    let text = "open 2 1\nstart 1 1\nsend 1 2\nstart 2 2\nsend 2 1\narrive 2 1 round 1\narrive 1 2 round 1\n\
+                close 1\nclose 2\nsend 1 2\nsend 2 1\narrive 1 2 round 2\nclose 2\nsend 2 1\n";
+    let mut bench = after(text);
+    bench.processes[0] = reference::Process::UNSTARTED;
+    assert_eq!(bench.step(&Record::arrive(2, 1, 0).bytes()), 0);
+    assert_eq!(bench.processes[0], reference::Process::UNSTARTED);
+    assert_eq!(bench.in_transit[17], 0);
+}

@@ -1,0 +1,245 @@
+//! The bench against a slow, plain model, where each message carries its own data.
+
+use reference::gen::{records, sizes, Rng};
+use reference::{Bench, Record};
+use std::collections::{BTreeMap, BTreeSet};
+
+type Data = Vec<Option<u32>>;
+type Set = BTreeSet<u8>;
+
+#[derive(Clone, Default)]
+struct Node {
+    round: u8,
+    decided: bool,
+    estimate: Data,
+    /// The estimate held when the round opened.
+    opened_with: Data,
+    previous: Set,
+    current: Set,
+    suspected: Set,
+    outbox: Set,
+    /// Estimates kept, by round and sender.
+    kept: BTreeMap<(u8, u8), Data>,
+}
+
+struct Model {
+    n: u8,
+    t: u8,
+    /// By process number; place 0 is empty.
+    nodes: Vec<Node>,
+    crashed: Set,
+    /// (r, a, b) with the data carried; 0 is the decision.
+    network: BTreeMap<(u8, u8, u8), Data>,
+}
+
+impl Model {
+    fn new(n: u8, t: u8) -> Model {
+        let unstarted = Node { estimate: vec![None; n as usize], ..Node::default() };
+        let nodes = vec![unstarted; n as usize + 1];
+        Model { n, t, nodes, crashed: Set::new(), network: BTreeMap::new() }
+    }
+
+    fn everyone(&self) -> Set {
+        (1..=self.n).collect()
+    }
+
+    fn good_fields(&self, record: Record) -> bool {
+        let Record { kind, a, b, r, value } = record;
+        let process = |p| p >= 1 && p <= self.n;
+        let two = process(b) && a != b;
+        process(a)
+            && match kind {
+                1 => b == 0 && r == 0,
+                2 | 6 => two && r == 0 && value == 0,
+                3 => two && r <= self.t + 1 && value == 0,
+                _ => b == 0 && r == 0 && value == 0,
+            }
+    }
+
+    fn step(&mut self, bytes: &[u8]) -> u8 {
+        if bytes.len() != 8 {
+            return 3;
+        }
+        let record = Record::read(bytes).unwrap();
+        let Record { kind, a, b, r, value } = record;
+        if !(1..=6).contains(&kind) {
+            return 4;
+        }
+        if !self.good_fields(record) {
+            return 5;
+        }
+        if self.crashed.contains(if kind == 3 { &b } else { &a }) {
+            return 6;
+        }
+        match kind {
+            1 => self.start(a, value),
+            2 => self.send(a, b),
+            3 => self.arrive(a, b, r),
+            4 => self.close(a),
+            5 => self.crash(a),
+            _ => self.suspect(a, b),
+        }
+    }
+
+    fn start(&mut self, a: u8, value: u32) -> u8 {
+        let everyone = self.everyone();
+        let node = &mut self.nodes[a as usize];
+        if node.round > 0 {
+            return 7;
+        }
+        node.estimate[a as usize - 1] = Some(value);
+        node.current = &everyone - &node.suspected;
+        node.previous = everyone;
+        self.open_next(a);
+        0
+    }
+
+    fn open_next(&mut self, a: u8) {
+        let node = &mut self.nodes[a as usize];
+        node.round += 1;
+        node.opened_with = node.estimate.clone();
+        node.kept.insert((node.round, a), node.estimate.clone());
+        node.outbox = node.current.clone();
+        node.outbox.remove(&a);
+    }
+
+    fn send(&mut self, a: u8, b: u8) -> u8 {
+        let node = &mut self.nodes[a as usize];
+        if !node.outbox.remove(&b) {
+            return 7;
+        }
+        let (r, data) = if node.decided { (0, &node.estimate) } else { (node.round, &node.opened_with) };
+        self.network.insert((r, a, b), data.clone());
+        0
+    }
+
+    fn arrive(&mut self, a: u8, b: u8, r: u8) -> u8 {
+        let Some(data) = self.network.remove(&(r, a, b)) else { return 7 };
+        let node = &mut self.nodes[b as usize];
+        if node.decided {
+            return 0;
+        }
+        if r == 0 {
+            if node.round > 0 {
+                self.decide(b, data, Some(a));
+            }
+            return 0;
+        }
+        let late = node.round > 0 && r < node.round;
+        let unexpected = node.round > 0 && r == node.round && !node.current.contains(&a);
+        if !late && !unexpected {
+            node.kept.insert((r, a), data);
+        }
+        0
+    }
+
+    fn close(&mut self, a: u8) -> u8 {
+        let node = self.nodes[a as usize].clone();
+        if node.round == 0 || node.decided || !node.outbox.is_empty() {
+            return 7;
+        }
+        let arrived = |m: &u8| node.kept.contains_key(&(node.round, *m));
+        if node.current.iter().any(|m| !arrived(m) && !node.suspected.contains(m)) {
+            return 8;
+        }
+        let next: Set = node.current.iter().copied().filter(arrived).collect();
+        let estimates: Vec<&Data> = next.iter().map(|m| &node.kept[&(node.round, *m)]).collect();
+        let entry = |i: usize| node.estimate[i].or_else(|| estimates.iter().find_map(|data| data[i]));
+        let merged: Data = (0..self.n as usize).map(entry).collect();
+        let settled = node.previous == next && estimates.iter().all(|data| **data == merged);
+        if node.round == self.t + 1 || settled {
+            self.decide(a, merged, None);
+        } else {
+            let node = &mut self.nodes[a as usize];
+            node.estimate = merged;
+            node.previous = std::mem::replace(&mut node.current, next);
+            self.open_next(a);
+        }
+        0
+    }
+
+    fn decide(&mut self, a: u8, data: Data, by: Option<u8>) {
+        let everyone = self.everyone();
+        let node = &mut self.nodes[a as usize];
+        node.decided = true;
+        node.estimate = data;
+        let told = |b: &u8| *b == a || node.suspected.contains(b) || Some(*b) == by;
+        node.outbox = everyone.into_iter().filter(|b| !told(b)).collect();
+    }
+
+    fn crash(&mut self, a: u8) -> u8 {
+        if self.crashed.len() >= self.t as usize {
+            return 9;
+        }
+        self.crashed.insert(a);
+        0
+    }
+
+    fn suspect(&mut self, a: u8, b: u8) -> u8 {
+        if !self.crashed.contains(&b) || !self.nodes[a as usize].suspected.insert(b) {
+            return 7;
+        }
+        0
+    }
+}
+
+fn set(bits: u16) -> Set {
+    (1..=16).filter(|i| bits >> (i - 1) & 1 == 1).collect()
+}
+
+fn same_process(model: &Model, bench: &Bench, number: u8) {
+    let node = &model.nodes[number as usize];
+    let p = &bench.processes[number as usize - 1];
+    let estimate: Data = (0..model.n as usize).map(|i| p.estimate.entry(i)).collect();
+    assert_eq!((p.round, p.decided, &estimate), (node.round, node.decided, &node.estimate));
+    assert_eq!((set(p.previous), set(p.current)), (node.previous.clone(), node.current.clone()));
+    assert_eq!((set(p.suspected), set(p.outbox)), (node.suspected.clone(), node.outbox.clone()));
+    assert_eq!(bench.decision(number).is_ok(), node.decided);
+}
+
+fn same_network(model: &Model, bench: &Bench) {
+    let mut out = vec![0; 3 * 16 * 15 * 17];
+    let count = bench.list_in_transit(&mut out).unwrap();
+    let listed: Vec<(u8, u8, u8)> = out[..3 * count].chunks(3).map(|m| (m[2], m[0], m[1])).collect();
+    let expected: Vec<(u8, u8, u8)> = model.network.keys().copied().collect();
+    assert_eq!(listed, expected);
+}
+
+/// Answers and states are the same at each record.
+fn compare(n: u8, t: u8, seed: u64) {
+    let mut model = Model::new(n, t);
+    let mut bench = Bench::open(n, t).unwrap();
+    for (i, record) in records(n, t, seed, 20).iter().enumerate() {
+        let told = format!("n {n}, t {t}, seed {seed}, record {}: {record:?}", i + 1);
+        let before = bench;
+        let answer = bench.step(record);
+        assert_eq!(answer, model.step(record), "{told}");
+        if answer != 0 {
+            assert!(bench == before, "{told}");
+            continue;
+        }
+        let event = Record::read(record).unwrap();
+        let actor = if event.kind == 3 { event.b } else { event.a };
+        let same = std::panic::catch_unwind(|| same_process(&model, &bench, actor));
+        assert!(same.is_ok(), "{told}");
+    }
+    println!("n {n}, t {t}, seed {seed}");
+    (1..=n).for_each(|number| same_process(&model, &bench, number));
+    same_network(&model, &bench);
+    assert_eq!(set(bench.crashed), model.crashed);
+}
+
+#[test]
+fn bench_and_model_agree_on_every_size() {
+    for (n, t) in sizes() {
+        (100..105).for_each(|seed| compare(n, t, seed));
+    }
+}
+
+#[test]
+fn bench_and_model_agree_on_small_sizes() {
+    let mut seeds = Rng::new(2);
+    for (n, t) in sizes().filter(|&(n, _)| n <= 6) {
+        (0..200).for_each(|_| compare(n, t, seeds.draw() >> 32));
+    }
+}

@@ -160,7 +160,7 @@ demand3 n t calls o =
       validity = λ x k v g l l′. validity-of n t h A x k v g;
       absence = absence-of n t h A;
       last-round = λ x l. last-round-of n t h A x;
-      early-round = λ x l. early-round-of n t h A x;
-      records = records-of n t h A;
+      early-round = λ x l. omega (arith, early-round-of n t h A x);
+      records = omega (arith, records-of n t h A);
       quiet-end = λ f. quiet-of n t h A (rw L at f);
     }

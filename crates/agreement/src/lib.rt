@@ -1,1 +1,1 @@
-// Demand 3, over the definitions of bench: the statement is specs/Demand3.antt, the theorem specs/Theorem.antt. There is no code.
+// The theorem, that every list of calls on an opened bench meets demand 3, is in specs/: Demand3.antt states it, Theorem.antt proves it.

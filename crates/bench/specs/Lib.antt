@@ -1,6 +1,8 @@
-pub mod Cases
+pub mod CallLaws
 pub mod Calls
+pub mod Cases
 pub mod Effect
+pub mod EveryLaws
 pub mod Record
 pub mod RecordLaws
 pub mod Refuse
@@ -9,3 +11,4 @@ pub mod RunLaws
 pub mod Sound
 pub mod SoundLaws
 pub mod State
+pub mod TransitLaws

@@ -1,5 +1,9 @@
 // A bench of processes, their network and their failure detector, stepped by records.
+pub mod list;
+mod open;
 mod record;
+pub mod show;
+pub mod sound;
 
 use global_data::GlobalData;
 use process::Process;
@@ -62,6 +66,7 @@ pub enum Answer {
 
 // The state: n processes and the crash limit t, who has crashed, the processes, for each of them and each round from 1 the estimate
 // that it held when the round opened, and for each of them and each message (0: its decision) to whom it is on its way.
+#[repr(C)]
 pub struct Bench {
     pub n: u8,
     pub t: u8,
@@ -84,6 +89,7 @@ pub struct Stepped {
 }
 
 // The host's tally.
+#[repr(C)]
 pub struct Counters {
     pub accepted: u32,
     pub refused: u32,

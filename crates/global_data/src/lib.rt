@@ -6,6 +6,7 @@ ghost use Rattle.sets.specs.Set.{has};
 ghost use Rattle.sets.specs.Truth.{choose};
 ghost use Rattle.global_data.specs.GlobalData.{Entry, entry, entryOf, sameEntry, nothingOf, oneOf, fillOf, fillFrom, sameTo, sameAll, rowsOf};
 
+#[repr(C)]
 pub struct GlobalData {
     pub present: u16,
     pub values: [u32; 16],

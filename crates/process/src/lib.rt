@@ -9,6 +9,7 @@ use global_data::fill_from;
 use global_data::same_all;
 
 // Document 01's terminal. Sets are bits, process i at bit i from 0.
+#[repr(C)]
 pub struct Process {
     // 0 before its start
     pub round: u8,
@@ -52,7 +53,7 @@ impl Process {
     }
 
     // Step 2: the next round opens, and it owes its estimate to the others of its current set.
-    fn open_round(mut self, a: usize) -> Process
+    pub fn open_round(mut self, a: usize) -> Process
         requires { ⌜ a < 16 ⌝ }
         requires { ⌜ self .round < 255 ⌝ }
         ensures { λ r. ⌜ r ≡ openOf a self ⌝ }
@@ -222,7 +223,7 @@ impl Process {
     }
 
     // Step 6: it has decided on g, and owes that to the members of m.
-    fn decide(mut self, g: GlobalData, m: u16) -> Process
+    pub fn decide(mut self, g: GlobalData, m: u16) -> Process
         ensures { λ r. ⌜ r ≡ decideOf g m self ⌝ }
     {
         self.decided = true;

@@ -1,0 +1,23 @@
+-- Entries of global data (document 01: entries of a sheet), and what each of them counts for.
+use mathlib.Core.Bool.{Bool, false}
+use mathlib.Core.List.{List}
+use Prim.Native.Nat.{ℕ}
+use lib.ListN.{getD}
+use Rattle.sets.specs.Set.{has}
+use Rattle.sets.specs.Truth.{below, choose}
+use Rattle.aggregates.specs.declared.Entry.{Entry}
+use Rattle.aggregates.specs.declared.Entry.the-variants.{Absent, Value}
+
+-- Entry i, from 0: its value (document 01: count) where its present mark is set, else absent (document 01: blank).
+unfoldable pub entryAt : List ℕ → ℕ → ℕ → Entry
+entryAt entries marks i = choose (has marks i) (Value (getD entries i 0)) Absent
+
+-- What an entry adds to the total: absent as nought.
+abbrev pub countsFor : Entry → ℕ
+countsFor Absent = 0
+countsFor (Value v) = v
+
+-- What go asks of an entry: present, and at least 1.
+abbrev pub served : Entry → Bool
+served Absent = false
+served (Value v) = below 0 v

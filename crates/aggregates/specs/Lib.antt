@@ -1,0 +1,11 @@
+pub mod Aggregates
+pub mod Answers
+pub mod Blind
+pub mod Change
+pub mod Comparison
+pub mod Entries
+pub mod Leader
+pub mod LeaderLaws
+pub mod Refusals
+pub mod Sum
+pub mod Whole

@@ -1,0 +1,257 @@
+// Aggregates of global data (document 01: sums of a sheet): of n entries and their present marks, bit i for entry i.
+// No word under an absent entry is read.
+ghost use mathlib.Core.Path.{_≡_};
+ghost use Prim.Native.Nat.{_<_, _≤_};
+ghost use lib.ListN.{length};
+ghost use lib.IntN.{pos, _-ℤ_};
+ghost use Rattle.aggregates.specs.Aggregates.{within, inside, refusalOf, total, go, led, changed, totalOf, goOf, leadOf, changeOf};
+ghost use Rattle.aggregates.specs.Answers.{totalMeans, goMeans, leadMeans, changeMeans};
+ghost use Rattle.aggregates.specs.Entries.{entryAt, countsFor, served};
+ghost use Rattle.aggregates.specs.Leader.{better, contend, withEntry, leaderTo};
+
+// A refusal, by document 01's number.
+pub struct Refusal {
+    pub number: u8,
+}
+
+pub enum TotalAnswer {
+    Sum(u64),
+    Refused(Refusal),
+}
+
+pub enum GoAnswer {
+    Go(bool),
+    Refused(Refusal),
+}
+
+pub enum LeadAnswer {
+    Lead { process: u8, value: u32 },
+    Refused(Refusal),
+}
+
+pub enum ChangeAnswer {
+    Difference(i64),
+    Refused(Refusal),
+}
+
+// An entry: document 01's blank, or a count.
+pub enum Entry {
+    Absent,
+    Value(u32),
+}
+
+// A process, by its number from 1, with its value.
+pub struct Candidate {
+    pub process: u8,
+    pub value: u32,
+}
+
+// The lead among the entries looked at.
+pub enum Leader {
+    Nobody,
+    Leads(Candidate),
+}
+
+// p is from 1 to k.
+fn is_within(k: u8, p: u8) -> bool
+    ensures { λ r. ⌜ r ≡ within k p ⌝ }
+{
+    if p == 0 { false } else { p <= k }
+}
+
+// No mark is at or past n.
+fn is_inside(n: u8, marks: u16) -> bool
+    requires { ⌜ n ≤ 16 ⌝ }
+    ensures { λ r. ⌜ r ≡ inside n marks ⌝ }
+{
+    sets::difference(marks, sets::all(n as usize)) == 0
+}
+
+// The number of the first check that fails, or 0. named: the process, where the call uses one, is from 1 to n.
+fn first_refusal(n: u8, marks: u16, named: bool, entries: usize) -> u8
+    ensures { λ r. ⌜ r ≡ refusalOf n marks named entries ⌝ }
+{
+    if !is_within(16, n) {
+        return 1;
+    }
+    if !is_inside(n, marks) {
+        return 5;
+    }
+    if !named {
+        return 5;
+    }
+    if entries != n as usize { 10 } else { 0 }
+}
+
+// Entry i, from 0. Its word is read only where its mark is set.
+fn entry_at(entries: &[u32], marks: u16, i: usize) -> Entry
+    requires { ⌜ (i < 16) × (i < length (now entries)) ⌝ }
+    ensures { λ r. ⌜ r ≡ entryAt (now (entries .entry)) marks i ⌝ }
+{
+    if sets::member(marks, i) {
+        Entry::Value(entries[i])
+    } else {
+        Entry::Absent
+    }
+}
+
+fn counts_for(entry: Entry) -> u32
+    ensures { λ r. ⌜ r ≡ countsFor entry ⌝ }
+{
+    match entry {
+        Entry::Absent => 0,
+        Entry::Value(v) => v,
+    }
+}
+
+fn sum(entries: &[u32], marks: u16) -> u64
+    requires { ⌜ length (now entries) ≤ 16 ⌝ }
+    ensures { λ r. ⌜ r ≡ total (length (now (entries .entry))) (entryAt (now (entries .entry)) marks) ⌝ }
+{
+    let mut sum: u64 = 0;
+    let mut i = 0;
+    while i < entries.len() {
+        sum += counts_for(entry_at(entries, marks, i)) as u64;
+        i += 1;
+    }
+    sum
+}
+
+fn is_served(entry: Entry) -> bool
+    ensures { λ r. ⌜ r ≡ served entry ⌝ }
+{
+    match entry {
+        Entry::Absent => false,
+        Entry::Value(v) => 0 < v,
+    }
+}
+
+fn all_served(entries: &[u32], marks: u16) -> bool
+    requires { ⌜ length (now entries) ≤ 16 ⌝ }
+    ensures { λ r. ⌜ r ≡ go (length (now (entries .entry))) (entryAt (now (entries .entry)) marks) ⌝ }
+{
+    let mut ok = true;
+    let mut i = 0;
+    while i < entries.len() {
+        ok = is_served(entry_at(entries, marks, i)) & ok;
+        i += 1;
+    }
+    ok
+}
+
+fn is_better(a: Candidate, b: Candidate) -> bool
+    ensures { λ r. ⌜ r ≡ better a b ⌝ }
+{
+    if a.value == b.value {
+        a.process < b.process
+    } else {
+        b.value < a.value
+    }
+}
+
+fn with_candidate(leader: Leader, c: Candidate) -> Leader
+    ensures { λ r. ⌜ r ≡ contend leader c ⌝ }
+{
+    match leader {
+        Leader::Nobody => Leader::Leads(c),
+        Leader::Leads(b) => if is_better(c, b) {
+            Leader::Leads(c)
+        } else {
+            Leader::Leads(b)
+        },
+    }
+}
+
+fn with_entry(leader: Leader, process: u8, entry: Entry) -> Leader
+    ensures { λ r. ⌜ r ≡ withEntry leader process entry ⌝ }
+{
+    match entry {
+        Entry::Absent => leader,
+        Entry::Value(v) => with_candidate(leader, Candidate { process, value: v }),
+    }
+}
+
+fn find_leader(entries: &[u32], marks: u16) -> Leader
+    requires { ⌜ length (now entries) ≤ 16 ⌝ }
+    ensures { λ r. ⌜ r ≡ leaderTo (length (now (entries .entry))) (entryAt (now (entries .entry)) marks) ⌝ }
+{
+    let mut best = Leader::Nobody;
+    let mut i = 0;
+    while i < entries.len() {
+        let next = with_entry(best, (i + 1) as u8, entry_at(entries, marks, i));
+        best = next;
+        i += 1;
+    }
+    best
+}
+
+fn lead_by(leader: Leader) -> LeadAnswer
+    ensures { λ r. ⌜ leadMeans r ≡ led leader ⌝ }
+{
+    match leader {
+        Leader::Nobody => LeadAnswer::Refused(Refusal { number: 12 }),
+        Leader::Leads(c) => LeadAnswer::Lead {
+            process: c.process,
+            value: c.value,
+        },
+    }
+}
+
+fn difference(v: u32, standing: u32) -> i64
+    ensures { λ r. ⌜ r ≡ pos v -ℤ pos standing ⌝ }
+{
+    v as i64 - standing as i64
+}
+
+fn changed_by(standing: u32, entry: Entry) -> ChangeAnswer
+    ensures { λ r. ⌜ changeMeans r ≡ changed standing entry ⌝ }
+{
+    match entry {
+        Entry::Absent => ChangeAnswer::Refused(Refusal { number: 12 }),
+        Entry::Value(v) => ChangeAnswer::Difference(difference(v, standing)),
+    }
+}
+
+// The sum of the entries, absent as nought.
+pub fn total(n: u8, entries: &[u32], marks: u16) -> TotalAnswer
+    ensures { λ r. ⌜ totalMeans r ≡ totalOf n (now (entries .entry)) marks ⌝ }
+{
+    let number = first_refusal(n, marks, true, entries.len());
+    if number != 0 {
+        return TotalAnswer::Refused(Refusal { number });
+    }
+    TotalAnswer::Sum(sum(entries, marks))
+}
+
+// Whether no entry is absent and each is at least 1.
+pub fn go(n: u8, entries: &[u32], marks: u16) -> GoAnswer
+    ensures { λ r. ⌜ goMeans r ≡ goOf n (now (entries .entry)) marks ⌝ }
+{
+    let number = first_refusal(n, marks, true, entries.len());
+    if number != 0 {
+        return GoAnswer::Refused(Refusal { number });
+    }
+    GoAnswer::Go(all_served(entries, marks))
+}
+
+// The process with the largest value, ties to the lowest number.
+pub fn lead(n: u8, entries: &[u32], marks: u16) -> LeadAnswer
+    ensures { λ r. ⌜ leadMeans r ≡ leadOf n (now (entries .entry)) marks ⌝ }
+{
+    let number = first_refusal(n, marks, true, entries.len());
+    if number != 0 {
+        return LeadAnswer::Refused(Refusal { number });
+    }
+    lead_by(find_leader(entries, marks))
+}
+
+// The entry of a process, from 1, less a standing value.
+pub fn change(n: u8, entries: &[u32], marks: u16, process: u8, standing: u32) -> ChangeAnswer
+    ensures { λ r. ⌜ changeMeans r ≡ changeOf n (now (entries .entry)) marks process standing ⌝ }
+{
+    let number = first_refusal(n, marks, is_within(n, process), entries.len());
+    if number != 0 {
+        return ChangeAnswer::Refused(Refusal { number });
+    }
+    changed_by(standing, entry_at(entries, marks, (process - 1) as usize))
+}

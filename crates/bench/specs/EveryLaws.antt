@@ -1,0 +1,32 @@
+-- How a loop finds out whether every element passes: it joins one test after another.
+use mathlib.Core.Path.{_≡_, refl, sym, _∙_}
+use mathlib.Core.List.{List, [], _∷_}
+use mathlib.Core.Bool.{Bool, true, false}
+use mathlib.Core.Bool as core
+use Prim.Native.Nat.{ℕ, zero, suc, _+_, _≤_, _<_}
+use native.Mathlib.Numerals.{add-one}
+use native.Mathlib.Omega.{arith}
+use lib.ListN.{length, getD, drop, drop-of-length-le}
+use lib.Seq.{drop-cons}
+use Rattle.sets.specs.Truth.{_&&_, and-on-r}
+use Rattle.bench.specs.Sound.{every}
+
+module _ {A : Type 0} (p : A → Bool) where
+  -- a loop's flag and the elements from k on say together whether every one passes
+  abbrev pub Tested : List A → ℕ → Bool → Type 0
+  Tested l k ok = (ok && every p (drop k l)) ≡ every p l
+
+  pub tested-none : (l : List A) → Tested l 0 true
+  unfolding _&&_
+  tested-none l = refl
+
+  -- x is the test of the element at k
+  pub tested-more : (d : A) (l : List A) (k : ℕ) (ok x : Bool) → k < length l → x ≡ p (getD l k d) → Tested l k ok
+      → Tested l (k + 1) (core._&&_ ok x)
+  unfolding every _&&_
+  tested-more d l k true x h e t = rw (add-one, e) (rw (drop-cons l k d) at t)
+  tested-more d l k false x h e t = t
+
+  pub tested-all : (l : List A) (k : ℕ) (ok : Bool) → length l ≤ k → Tested l k ok → ok ≡ every p l
+  unfolding every
+  tested-all l k ok h t = sym (and-on-r ok true refl) ∙ (rw (drop-of-length-le l) at t)

@@ -1,0 +1,93 @@
+// Refusals 1 and 2: whether sizes open a bench, and whether a bench is not damaged.
+use crate::Bench;
+use global_data::GlobalData;
+use process::Process;
+ghost use mathlib.Core.Path.{_≡_};
+ghost use Prim.Native.Nat.{_≤_};
+ghost use Rattle.bench.specs.Sound.{opens, every, within, soundData, soundProcess, soundOf};
+
+// n is 1 to 16, and t below n.
+pub fn sizes_open(n: u8, t: u8) -> bool
+    ensures { λ r. ⌜ r ≡ opens n t ⌝ }
+{
+    (0 < n) & ((n < 17) & (t < n))
+}
+
+// No member at or past n.
+fn set_within(n: u8, m: u16) -> bool
+    requires { ⌜ n ≤ 16 ⌝ }
+    ensures { λ r. ⌜ r ≡ within n m ⌝ }
+{
+    (m as u32) < (1u32 << n)
+}
+
+fn sets_within(n: u8, sets: &[u16]) -> bool
+    requires { ⌜ n ≤ 16 ⌝ }
+    ensures { λ r. ⌜ r ≡ every (within n) (now (sets .entry)) ⌝ }
+{
+    let mut ok = true;
+    let mut k = 0;
+    while k < sets.len() {
+        ok = ok & set_within(n, sets[k]);
+        k += 1;
+    }
+    ok
+}
+
+// The round is at most t + 1, and every set is within n.
+fn process_sound(n: u8, t: u8, p: Process) -> bool
+    requires { ⌜ n ≤ 16 ⌝ }
+    ensures { λ r. ⌜ r ≡ soundProcess n t p ⌝ }
+{
+    let received = p.received;
+    ((p.round as u16) < (t as u16) + 2)
+        & (set_within(n, p.previous)
+            & (set_within(n, p.current)
+                & (set_within(n, p.suspected)
+                    & (set_within(n, p.outbox)
+                        & (set_within(n, p.estimate.present) & sets_within(n, &received))))))
+}
+
+fn processes_sound(n: u8, t: u8, processes: [Process; 16]) -> bool
+    requires { ⌜ n ≤ 16 ⌝ }
+    ensures { λ r. ⌜ r ≡ every (soundProcess n t) processes ⌝ }
+{
+    let mut ok = true;
+    let mut k = 0;
+    while k < 16 {
+        let p = processes[k];
+        ok = ok & process_sound(n, t, p);
+        k += 1;
+    }
+    ok
+}
+
+fn rows_within(n: u8, rows: [GlobalData; 256]) -> bool
+    requires { ⌜ n ≤ 16 ⌝ }
+    ensures { λ r. ⌜ r ≡ every (soundData n) rows ⌝ }
+{
+    let mut ok = true;
+    let mut k = 0;
+    while k < 256 {
+        let g = rows[k];
+        ok = ok & set_within(n, g.present);
+        k += 1;
+    }
+    ok
+}
+
+// Every process, row and set counts, used or not.
+pub fn is_sound(b: Bench) -> bool
+    ensures { λ r. ⌜ r ≡ soundOf b ⌝ }
+{
+    let n = b.n;
+    let t = b.t;
+    if !sizes_open(n, t) {
+        return false;
+    }
+    let processes = b.processes;
+    let rows = b.sent;
+    let words = b.in_transit;
+    set_within(n, b.crashed)
+        & (processes_sound(n, t, processes) & (rows_within(n, rows) & sets_within(n, &words)))
+}

@@ -10,8 +10,8 @@ use Rattle.sets.specs.Laws.{has-remove, has-low, nothing-in, split-differ}
 use Rattle.sets.specs.Count.{bit}
 use Rattle.sets.specs.Truth.{_&&_, _||_, same, Is, on, off, is, below-on, clash, both-ways, choose-on, choose-off, and-l, and-r, and-mk, and-off-l, and-off-r, or-cases, or-off-l, or-mk-l, not-on, same-on, same-off, same-not, same-refl}
 use Rattle.global_data.specs.declared.GlobalData.{GlobalData}
-use Rattle.global_data.specs.GlobalData.{value, entryOf, sameTo, sameAll}
-use Rattle.global_data.specs.Laws.{entry-present, entry-absent, value-present, fill-stays, fill-has, fill-comes, Lowest, same-on as same-data-on, same-not as same-data-not, sameAll-on, sameAll-not}
+use Rattle.global_data.specs.GlobalData.{value, entryOf, sameTo, allSame}
+use Rattle.global_data.specs.Laws.{entry-present, entry-absent, value-present, fill-stays, fill-has, fill-comes, Lowest, same-on as same-data-on, same-not as same-data-not, allSame-on, allSame-not}
 use Rattle.process.specs.declared.Process.{Process}
 use Rattle.process.specs.Steps.{openOf, arrivedOf, dueOf, nextOf, peersOf, filledOf, decidesOf, owedOf, decideOf, advanceOf, takesPart}
 use Rattle.process.specs.Laws.{close-on, close-off, has-arrived, has-next, has-peers, due-on, decides-set, decides-own, decides-peers, open-round, open-test, next-lt, filled-lt}
@@ -198,7 +198,7 @@ module _ (s : Bench) (c : ℕ → Bool) (K : Bounds s) (B : Basic (s .n) (s .t) 
 
     same-row : (y k : ℕ) → k < s .n → y ≢ a → next (viewOf s c) a y ≡ true → has (rowOf s y q .present) k ≡ has (new .present) k
     same-row y k l ne m =
-        let w = sameAll-on 16 (s .n) (peersOf a p) rows new (decides-peers (s .n) (s .t) a rows p e not-last) y (omega (arith, next-low y m, K .few)) (peer-mk y ne m) in
+        let w = allSame-on 16 (s .n) (peersOf a p) rows new (decides-peers (s .n) (s .t) a rows p e not-last) y (omega (arith, next-low y m, K .few)) (peer-mk y ne m) in
         rw (peer-row y ne m) (entry-has (rows y) new k (same-data-on (s .n) (rows y) new w k l))
 
   abbrev Reason : Type 0
@@ -210,7 +210,7 @@ module _ (s : Bench) (c : ℕ → Bool) (K : Bounds s) (B : Basic (s .n) (s .t) 
   reason : decidesAt s a ≡ false → Reason
   reason e = go (open-test (s .n) (s .t) a rows p e)
     where
-      go : (p .previous ≢ nextOf a p) ⊎ ((sameTo (s .n) new (p .estimate) ≡ false) ⊎ (sameAll 16 (s .n) (peersOf a p) rows new ≡ false)) → Reason
+      go : (p .previous ≢ nextOf a p) ⊎ ((sameTo (s .n) new (p .estimate) ≡ false) ⊎ (allSame 16 (s .n) (peersOf a p) rows new ≡ false)) → Reason
       go (inl w) =
           let d = split-differ (s .n) (p .previous) (nextOf a p) (process-low s K a .previous) (next-lt (s .n) a p (process-low s K a .current)) w in
           inl (d .0, d .1, λ u. d .2 (u ∙ next-has (d .0)))
@@ -218,7 +218,7 @@ module _ (s : Bench) (c : ℕ → Bool) (K : Bounds s) (B : Basic (s .n) (s .t) 
           let d = same-data-not (s .n) new (p .estimate) w in
           inr (inl (d .0, d .1, entry-differ (p .estimate) new (d .0) (λ u. d .2 (sym u))))
       go (inr (inr w)) =
-          let z = sameAll-not 16 (s .n) (peersOf a p) rows new w in
+          let z = allSame-not 16 (s .n) (peersOf a p) rows new w in
           let m = peer-on (z .0) (z .2) in
           let d = same-data-not (s .n) (rows (z .0)) new (z .3) in
           inr (inr (z .0, d .0, next-low (z .0) (m .1), m .0, m .1, d .1, rw (peer-row (z .0) (m .0) (m .1)) (entry-differ (rows (z .0)) new (d .0) (d .2))))

@@ -8,7 +8,7 @@ use Rattle.sets.specs.Each.{each}
 use Rattle.sets.specs.Every.{every as everyBelow}
 use Rattle.sets.specs.Set.{has, insertOf, removeOf, unionOf, intersectionOf, differenceOf, allOf, sizeOf}
 use Rattle.sets.specs.Truth.{_&&_, _||_, same, below, choose}
-use Rattle.global_data.specs.GlobalData.{Entry, absent, value, entryOf, sameEntry, nothingOf, oneOf, filledWord, fillOf, fillFrom, sameTo, sameAll}
+use Rattle.global_data.specs.GlobalData.{Entry, absent, value, entryOf, sameEntry, nothingOf, oneOf, filledWord, fillOf, fillFrom, sameTo, allSame}
 use Rattle.process.specs.Steps.{idleOf, takesPart, openOf, startOf, keeps, receiveOf, arrivedOf, dueOf, nextOf, peersOf, filledOf, agreedOf, decidesOf, owedOf, decideOf, advanceOf, closeOf, adoptOf, messageOf, sendOf, suspectOf}
 use Rattle.process.specs.declared.Process.{Process}
 use Rattle.bench.specs.declared.Bench.{Bench}
@@ -221,7 +221,7 @@ pub cases : every passes table ≡ true
 unfolding bytes start send arrive close crash suspect answersOf endOf sameBool sameList sameEntries pred sameLine passes
     round3 noRefusal allThree case1 case2 case3 case4and6 sizes case7 case8 case9 table
     has insertOf removeOf unionOf intersectionOf differenceOf allOf sizeOf ones _&&_ _||_ same below choose
-    entryOf sameEntry each everyBelow nothingOf oneOf filledWord fillOf fillFrom sameTo sameAll
+    entryOf sameEntry each everyBelow nothingOf oneOf filledWord fillOf fillFrom sameTo allSame
     idleOf takesPart openOf startOf keeps receiveOf arrivedOf dueOf nextOf peersOf filledOf agreedOf decidesOf owedOf decideOf advanceOf closeOf adoptOf messageOf sendOf suspectOf
     processAt sentAt transitAt crashedAt withProcess withSent withTransit withCrashed openedOf opens every within soundData soundProcess soundOf
     wordOf isProcess usesB usesR usesValue fieldB fieldR fieldValue fields messageFrom eventOf partsOf decodeOf check numberOf actor possible ready allowed refuses refusesDecoded refusal

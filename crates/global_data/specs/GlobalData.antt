@@ -60,8 +60,8 @@ unfoldable pub sameTo : ℕ → GlobalData → GlobalData → Bool
 sameTo n g h = every n (λ k. sameEntry (entryOf g k) (entryOf h k))
 
 -- the row of each member of m below p is the same as g, in the entries below n
-unfoldable pub sameAll : ℕ → ℕ → ℕ → (ℕ → GlobalData) → GlobalData → Bool
-sameAll p n m rows g = every p (λ q. choose (has m q) (sameTo n (rows q) g) true)
+unfoldable pub allSame : ℕ → ℕ → ℕ → (ℕ → GlobalData) → GlobalData → Bool
+allSame p n m rows g = every p (λ q. choose (has m q) (sameTo n (rows q) g) true)
 
 -- what lies past the end of an array of rows
 abbrev pub noData : GlobalData

@@ -13,7 +13,7 @@ use Rattle.sets.specs.Laws.{has-empty, has-insert, has-union, has-difference, u
 use Rattle.sets.specs.Set.{has}
 use Rattle.sets.specs.Truth as truth
 use Rattle.sets.specs.Truth.{_&&_, _||_, same, choose, Is, on, off, is, clash, both-ways, choose-on, choose-off, or-off-r, or-mk-l, or-mk-r, eq-or}
-use Rattle.global_data.specs.GlobalData.{Entry, absent, value, entry, entryOf, orElse, sameEntry, nothingOf, oneOf, filledWord, fillOf, fillFrom, sameTo, sameAll}
+use Rattle.global_data.specs.GlobalData.{Entry, absent, value, entry, entryOf, orElse, sameEntry, nothingOf, oneOf, filledWord, fillOf, fillFrom, sameTo, allSame}
 use Rattle.global_data.specs.declared.GlobalData.{GlobalData}
 
 -- ---- entries
@@ -317,21 +317,21 @@ module _ (p n m : ℕ) (rows : ℕ → GlobalData) (g : GlobalData) where
   abbrev row-same : ℕ → Bool
   row-same q = choose (has m q) (sameTo n (rows q) g) true
 
-  pub sameAll-on : sameAll p n m rows g ≡ true → (q : ℕ) → q < p → has m q ≡ true → sameTo n (rows q) g ≡ true
-  unfolding sameAll
-  sameAll-on e q l t = sym (choose-on (has m q) (sameTo n (rows q) g) true t) ∙ every-on p row-same e q l
+  pub allSame-on : allSame p n m rows g ≡ true → (q : ℕ) → q < p → has m q ≡ true → sameTo n (rows q) g ≡ true
+  unfolding allSame
+  allSame-on e q l t = sym (choose-on (has m q) (sameTo n (rows q) g) true t) ∙ every-on p row-same e q l
 
-  pub sameAll-mk : ((q : ℕ) → q < p → has m q ≡ true → sameTo n (rows q) g ≡ true) → sameAll p n m rows g ≡ true
-  unfolding sameAll
-  sameAll-mk h = every-mk p row-same (λ q l. go q l (is (has m q)))
+  pub allSame-mk : ((q : ℕ) → q < p → has m q ≡ true → sameTo n (rows q) g ≡ true) → allSame p n m rows g ≡ true
+  unfolding allSame
+  allSame-mk h = every-mk p row-same (λ q l. go q l (is (has m q)))
     where
       go : (q : ℕ) → q < p → Is (has m q) → row-same q ≡ true
       go q l (on t) = choose-on (has m q) (sameTo n (rows q) g) true t ∙ h q l t
       go q l (off f) = choose-off (has m q) (sameTo n (rows q) g) true f
 
-  pub sameAll-not : sameAll p n m rows g ≡ false → (q : ℕ) × (q < p) × (has m q ≡ true) × (sameTo n (rows q) g ≡ false)
-  unfolding sameAll
-  sameAll-not e = let w = every-not p row-same e in go (w .0) (w .1) (w .2) (is (has m (w .0)))
+  pub allSame-not : allSame p n m rows g ≡ false → (q : ℕ) × (q < p) × (has m q ≡ true) × (sameTo n (rows q) g ≡ false)
+  unfolding allSame
+  allSame-not e = let w = every-not p row-same e in go (w .0) (w .1) (w .2) (is (has m (w .0)))
     where
       go : (q : ℕ) → q < p → row-same q ≡ false → Is (has m q)
           → (q : ℕ) × (q < p) × (has m q ≡ true) × (sameTo n (rows q) g ≡ false)

@@ -4,7 +4,7 @@ ghost use Prim.Native.Nat.{_<_, _≤_};
 ghost use lib.ListN.{getD};
 ghost use Rattle.sets.specs.Set.{has};
 ghost use Rattle.sets.specs.Truth.{choose};
-ghost use Rattle.global_data.specs.GlobalData.{Entry, entry, entryOf, sameEntry, nothingOf, oneOf, fillOf, fillFrom, sameTo, sameAll, rowsOf};
+ghost use Rattle.global_data.specs.GlobalData.{Entry, entry, entryOf, sameEntry, nothingOf, oneOf, fillOf, fillFrom, sameTo, allSame, rowsOf};
 
 #[repr(C)]
 pub struct GlobalData {
@@ -110,7 +110,7 @@ pub fn fill_from(g: GlobalData, members: u16, rows: [GlobalData; 16]) -> GlobalD
 // Whether the row of each member is the same as g, in the entries below n.
 pub fn same_all(g: GlobalData, members: u16, rows: [GlobalData; 16], n: usize) -> bool
     requires { ⌜ n ≤ 16 ⌝ }
-    ensures { λ r. ⌜ r ≡ sameAll 16 n members (rowsOf rows) g ⌝ }
+    ensures { λ r. ⌜ r ≡ allSame 16 n members (rowsOf rows) g ⌝ }
 {
     let mut ok = true;
     let mut q = 0;

@@ -8,7 +8,7 @@ use Rattle.sets.specs.Every.{every}
 use Rattle.sets.specs.Set.{has, insertOf, removeOf, unionOf, intersectionOf, differenceOf, allOf}
 use Rattle.sets.specs.Truth.{_&&_, _||_, same, choose}
 use Rattle.global_data.specs.declared.GlobalData.{GlobalData}
-use Rattle.global_data.specs.GlobalData.{Entry, absent, value, entryOf, sameEntry, rowsOf, filledWord, fillOf, fillFrom, sameTo, sameAll}
+use Rattle.global_data.specs.GlobalData.{Entry, absent, value, entryOf, sameEntry, rowsOf, filledWord, fillOf, fillFrom, sameTo, allSame}
 use Rattle.process.specs.declared.Process.{Process}
 use Rattle.process.specs.Steps.{openOf, arrivedOf, nextOf, peersOf, filledOf, agreedOf, decidesOf, owedOf, decideOf, advanceOf, closeOf}
 
@@ -188,6 +188,6 @@ table =
 pub cases : allPass table ≡ true
 unfolding dataFrom rowsFrom word pred processOf sameBool shows passes allPass agreement ownOld suspectedSender setsDiffer zeroOrAbsent lastRound lowest table
     has insertOf removeOf unionOf intersectionOf differenceOf allOf _&&_ _||_ same choose every each
-    entryOf sameEntry filledWord fillOf fillFrom sameTo sameAll
+    entryOf sameEntry filledWord fillOf fillFrom sameTo allSame
     openOf arrivedOf nextOf peersOf filledOf agreedOf decidesOf owedOf decideOf advanceOf closeOf
 cases = refl

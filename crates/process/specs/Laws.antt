@@ -12,7 +12,7 @@ use Rattle.sets.specs.Set.{has, removeOf, allOf}
 use Rattle.sets.specs.Truth.{_&&_, _||_, same, below, choose, and-l, and-r, and-mk, and-cases, and-on-l, or-mk-l, or-mk-r, or-off-l, or-none-l, or-none-r, not-on, not-off, off-by, clash, same-on, same-mk, same-off, same-not, choose-on, choose-off}
 use Rattle.sets.specs.Laws.{has-insert, has-remove, has-union, has-intersection, has-difference, has-all, nothing-in, empty-by, all-lt, insert-lt, remove-lt, difference-lt, intersection-lt}
 use Rattle.global_data.specs.declared.GlobalData.{GlobalData}
-use Rattle.global_data.specs.GlobalData.{nothingOf, oneOf, sameTo, sameAll}
+use Rattle.global_data.specs.GlobalData.{nothingOf, oneOf, sameTo, allSame}
 use Rattle.global_data.specs.Laws.{fillFrom-lt}
 use Rattle.process.specs.declared.Process.{Process}
 use Rattle.process.specs.Steps.{idleOf, takesPart, openOf, startOf, receiveOf, arrivedOf, dueOf, nextOf, peersOf, filledOf, agreedOf, decidesOf, owedOf, decideOf, advanceOf, closeOf, adoptOf, sendOf, suspectOf}
@@ -112,7 +112,7 @@ module _ (n t a : ℕ) (rows : ℕ → GlobalData) (p : Process) where
   last-decides e = or-mk-l _ _ (same-mk _ _ e)
 
   pub decides-by : p .previous ≡ nextOf a p → sameTo n (filledOf a rows p) (p .estimate) ≡ true
-      → sameAll 16 n (peersOf a p) rows (filledOf a rows p) ≡ true → decidesOf n t a rows p ≡ true
+      → allSame 16 n (peersOf a p) rows (filledOf a rows p) ≡ true → decidesOf n t a rows p ≡ true
   unfolding decidesOf agreedOf
   decides-by e f g = or-mk-r _ _ (and-mk _ _ (same-mk _ _ e) (and-mk _ _ f g))
 
@@ -130,7 +130,7 @@ module _ (n t a : ℕ) (rows : ℕ → GlobalData) (p : Process) where
     unfolding agreedOf
     decides-own = and-l _ _ (and-r _ _ decides-agreed)
 
-    pub decides-peers : sameAll 16 n (peersOf a p) rows (filledOf a rows p) ≡ true
+    pub decides-peers : allSame 16 n (peersOf a p) rows (filledOf a rows p) ≡ true
     unfolding agreedOf
     decides-peers = and-r _ _ (and-r _ _ decides-agreed)
 
@@ -141,7 +141,7 @@ module _ (n t a : ℕ) (rows : ℕ → GlobalData) (p : Process) where
     open-round = same-not _ _ (or-none-l _ _ e)
 
     pub open-test : (p .previous ≢ nextOf a p)
-        ⊎ ((sameTo n (filledOf a rows p) (p .estimate) ≡ false) ⊎ (sameAll 16 n (peersOf a p) rows (filledOf a rows p) ≡ false))
+        ⊎ ((sameTo n (filledOf a rows p) (p .estimate) ≡ false) ⊎ (allSame 16 n (peersOf a p) rows (filledOf a rows p) ≡ false))
     unfolding decidesOf agreedOf
     open-test = ⊎-elim (λ f. inl (same-not _ _ f)) (λ f. inr (and-cases _ _ f)) (and-cases _ _ (or-none-r _ _ e))
 

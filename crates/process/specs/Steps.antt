@@ -6,7 +6,7 @@ use lib.ListN.{getD, set, replicate}
 use Rattle.sets.specs.Set.{has, insertOf, removeOf, unionOf, intersectionOf, differenceOf, allOf, emptySet}
 use Rattle.sets.specs.Truth.{_&&_, _||_, same, below, choose}
 use Rattle.global_data.specs.declared.GlobalData.{GlobalData}
-use Rattle.global_data.specs.GlobalData.{noData, nothingOf, oneOf, fillFrom, sameTo, sameAll}
+use Rattle.global_data.specs.GlobalData.{noData, nothingOf, oneOf, fillFrom, sameTo, allSame}
 use Rattle.process.specs.declared.Process.{Process}
 
 -- what stands outside an array of processes
@@ -103,7 +103,7 @@ filledOf a rows p = fillFrom 16 (peersOf a p) rows (p .estimate)
 unfoldable pub agreedOf : ℕ → ℕ → (ℕ → GlobalData) → Process → Bool
 agreedOf n a rows p =
     same (p .previous) (nextOf a p)
-    && (sameTo n (filledOf a rows p) (p .estimate) && sameAll 16 n (peersOf a p) rows (filledOf a rows p))
+    && (sameTo n (filledOf a rows p) (p .estimate) && allSame 16 n (peersOf a p) rows (filledOf a rows p))
 
 -- it decides if the round is t + 1 or the test holds
 unfoldable pub decidesOf : ℕ → ℕ → ℕ → (ℕ → GlobalData) → Process → Bool

@@ -14,7 +14,7 @@ use Rattle.sets.specs.Every.{every}
 use Rattle.sets.specs.Set.{has}
 use Rattle.sets.specs.Truth.{_&&_, choose, and-l, Is, on, off, is, clash, choose-on, choose-off, or-none-l, same-not}
 use Rattle.global_data.specs.declared.GlobalData.{GlobalData}
-use Rattle.global_data.specs.GlobalData.{noData, fillOf, fillFrom, sameTo, sameAll, rowsOf}
+use Rattle.global_data.specs.GlobalData.{noData, fillOf, fillFrom, sameTo, allSame, rowsOf}
 use Rattle.process.specs.declared.Process.{Process}
 use Rattle.process.specs.Steps.{noProcess, openOf, startOf, peersOf, filledOf, agreedOf, decidesOf, decideOf, advanceOf, closeOf, messageOf}
 use Rattle.bench.specs.declared.Bench.{Bench}
@@ -196,7 +196,7 @@ module _ (f g : ℕ → GlobalData) (h : (k : ℕ) → k < 16 → f k ≡ g k) w
       ap₂ _&&_ (ap (λ x. choose (has m p) (sameTo n x e) true) (h p (omega arith))) (every-rows p n m e (omega arith))
 
   pub close-rows : (n t a : ℕ) (p : Process) → closeOf n t a f p ≡ closeOf n t a g p
-  unfolding closeOf decidesOf agreedOf filledOf sameAll advanceOf
+  unfolding closeOf decidesOf agreedOf filledOf allSame advanceOf
   close-rows n t a p =
       simp (fill-rows 16 (peersOf a p) (p .estimate) (omega arith), every-rows 16 n (peersOf a p) (fillFrom 16 (peersOf a p) g (p .estimate)) (omega arith))
 

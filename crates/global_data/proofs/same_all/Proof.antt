@@ -5,19 +5,19 @@ use Prim.Native.Nat.{_≤_, _-_}
 use native.Mathlib.Numerals.{add-one}
 use Rattle.sets.specs.Every.{every}
 use Rattle.sets.specs.Truth.{_&&_, choose}
-use Rattle.global_data.specs.GlobalData.{sameAll, rowsOf}
+use Rattle.global_data.specs.GlobalData.{allSame, rowsOf}
 use borrow.Author.Needs.{needs}
 use Rattle.global_data.proofs.same_all.Statement.{statement}
 use Rattle.global_data.proofs.same_all.Tie as tie
 
 abbrev Inv-loop : tie.InvT-loop
-Inv-loop g members n rows ok₀ q₀ ok q = (q ≤ 16) × (ok ≡ sameAll q n members (rowsOf rows) g)
+Inv-loop g members n rows ok₀ q₀ ok q = (q ≤ 16) × (ok ≡ allSame q n members (rowsOf rows) g)
 
 abbrev μ-loop : tie.MeasureT-loop
 μ-loop g members n rows ok₀ q₀ ok q = 16 - q
 
 loop-holds : tie.Need-loop-holds Inv-loop μ-loop
-unfolding sameAll every
+unfolding allSame every
 loop-holds c = (search needs, refl)
 
 member-requires : tie.Need-member-requires Inv-loop μ-loop
@@ -39,7 +39,7 @@ loop-less : tie.Need-loop-less Inv-loop μ-loop
 loop-less c = search needs
 
 loop-again : tie.Need-loop-again Inv-loop μ-loop
-unfolding sameAll every choose _&&_
+unfolding allSame every choose _&&_
 loop-again c =
     let e = c .before .member .ensures in
     let v = c .before .before .before .loop .inv .1 in (

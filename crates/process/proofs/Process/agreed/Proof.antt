@@ -6,7 +6,7 @@ use borrow.Author.Needs.{needs}
 use Rattle.sets.specs.Set.{removeOf}
 use Rattle.sets.specs.Truth.{_&&_, same-mk, same-off, and-off-l, and-on-l}
 use Rattle.global_data.specs.declared.GlobalData.{GlobalData}
-use Rattle.global_data.specs.GlobalData.{sameTo, sameAll, rowsOf}
+use Rattle.global_data.specs.GlobalData.{sameTo, allSame, rowsOf}
 use Rattle.process.specs.declared.Process.{Process}
 use Rattle.process.specs.Steps.{nextOf, peersOf, filledOf, agreedOf}
 use Rattle.process.proofs.Process.agreed.Statement.{statement}
@@ -32,7 +32,7 @@ same-all-requires c κs = search needs
 module _ (n a : ℕ) (rows : ℕ → GlobalData) (p : Process) (g : GlobalData) (own : Bool) (next : ℕ)
     (e : next ≡ nextOf a p) (h : p .previous ≡ next) (f : g ≡ filledOf a rows p) (o : own ≡ sameTo n g (p .estimate)) where
   -- the sets agree, so the data decides
-  agreed-data : agreedOf n a rows p ≡ (own && sameAll 16 n (removeOf next a) rows g)
+  agreed-data : agreedOf n a rows p ≡ (own && allSame 16 n (removeOf next a) rows g)
   unfolding agreedOf peersOf
   agreed-data = rw (o, f, e) (and-on-l _ _ (same-mk _ _ (h ∙ e)))
 
@@ -41,7 +41,7 @@ agreed-here : (c : tie.After-same)
     → let d = c .before .before .before .before in
     let x = d .before .args in
     agreedOf (x .n) (x .a) (rowsOf (x .rows)) (x .self)
-    ≡ (c .same .result && sameAll 16 (x .n) (removeOf (d .next .result) (x .a)) (rowsOf (x .rows)) (x .g))
+    ≡ (c .same .result && allSame 16 (x .n) (removeOf (d .next .result) (x .a)) (rowsOf (x .rows)) (x .g))
 agreed-here c =
     let d = c .before .before .before .before in
     agreed-data _ _ _ _ _ _ _ (d .next .ensures) (c .before .before .if1 .left) (d .before .pre .1 .1 .1) (c .same .ensures)

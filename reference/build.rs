@@ -1,11 +1,19 @@
-//! With feature `proved`, links `libexport.a` from the directory named by PROVED_LIB_DIR.
+//! With feature `proved`, links `libexport.a`, which `rt staticlib export` writes, from ../target/staticlib
+//! or the directory named by PROVED_LIB_DIR.
+
+use std::path::PathBuf;
 
 fn main() {
     println!("cargo:rerun-if-env-changed=PROVED_LIB_DIR");
     if std::env::var_os("CARGO_FEATURE_PROVED").is_none() {
         return;
     }
-    let dir = std::env::var("PROVED_LIB_DIR").expect("feature `proved` needs PROVED_LIB_DIR");
-    println!("cargo:rustc-link-search=native={dir}");
+    let package = std::env::var_os("CARGO_MANIFEST_DIR").expect("cargo sets it");
+    let named = std::env::var_os("PROVED_LIB_DIR").map(PathBuf::from);
+    let dir = named.unwrap_or_else(|| PathBuf::from(package).join("../target/staticlib"));
+    let library = dir.join("libexport.a");
+    assert!(library.is_file(), "no {}: run `rt staticlib export`", library.display());
+    println!("cargo:rerun-if-changed={}", library.display());
+    println!("cargo:rustc-link-search=native={}", dir.display());
     println!("cargo:rustc-link-lib=static=export");
 }

@@ -1,9 +1,16 @@
 #!/bin/sh
 # Applies wrong edits of the rules, one at a time, to a copy under target/, and names the tests that fail.
-# Usage: ./mutations.sh [name...]    (from the package's directory)
+# Usage: ./mutations.sh [name...]            (from the package's directory)
+#        PROVED=1 ./mutations.sh [name...]   only the differential test with the proved library, which `rt staticlib export` writes
 set -eu
 only=" $* "
 place=target/mutations
+tests=
+if [ -n "${PROVED:-}" ]; then
+    tests="--features proved --test differential"
+    PROVED_LIB_DIR=$(cd ../target/staticlib && pwd)
+    export PROVED_LIB_DIR
+fi
 rm -rf "$place/copy"
 mkdir -p "$place/copy"
 
@@ -22,12 +29,13 @@ try() {
         "$2" > "$place/copy/$2"
     echo "== $1"
     log="$place/$1.log"
-    if (cd "$place/copy" && CARGO_TARGET_DIR=../build cargo test --release --offline --no-fail-fast) > "$log" 2>&1
+    if (cd "$place/copy" && CARGO_TARGET_DIR=../build cargo test --release --offline --no-fail-fast $tests) > "$log" 2>&1
     then
         echo "   NOT CAUGHT"
     else
         sed -n 's/^test \(.*\) \.\.\. FAILED$/   \1/p' "$log"
         grep -h -o '^n [0-9]*, t [0-9]*\(, seed [0-9]*\(, record [0-9]*\)\{0,1\}\)\{0,1\}: [^{]*' "$log" | grep -v ': Found' | cut -c1-110 | sed 's/^/     /' | head -8 || true
+        grep -h -o '^seed [0-9]*, .*' "$log" | cut -c1-150 | sed 's/^/     /' | head -1 || true
         grep -q '^error' "$log" && grep '^error' "$log" | grep -v 'test failed\|target' | sed 's/^/   /' || true
     fi
 }
@@ -65,3 +73,21 @@ try value-changed-at-start src/step.rs \
     'p.estimate.values[a] = value;' 'p.estimate.values[a] = value ^ 1;'
 try decide-again src/step.rs \
     'if self.processes[b].round != 0 && !self.processes[b].decided {' 'if self.processes[b].round != 0 {'
+
+# The other calls, for the differential test.
+try tally-wraps src/counters.rs \
+    'self.accepted = self.accepted.saturating_add(1);' 'self.accepted = self.accepted.wrapping_add(1);'
+try spent-before-empty src/run.rs \
+    'if rest.is_empty() {' 'if rest.is_empty() && accepted != budget {'
+try list-without-last-round src/read.rs \
+    '(0..=self.t + 1).flat_map(senders).flat_map(move |(a, r)| {' '(0..=self.t).flat_map(senders).flat_map(move |(a, r)| {'
+try undecided-before-short-slice src/read.rs \
+    'let out = out.get_mut(..self.n as usize).ok_or(Refusal::Slice)?;' \
+    'if !p.decided { return Err(Refusal::Undecided); } let out = out.get_mut(..self.n as usize).ok_or(Refusal::Slice)?;'
+try unused-processes-not-checked src/layout.rs \
+    'let processes = self.processes.iter().fold(0, |used, p| used | p.used());' \
+    'let processes = self.processes.iter().take(self.n as usize).fold(0, |used, p| used | p.used());'
+try lead-ties-to-highest src/aggregates.rs \
+    'if best.is_none_or(|(_, value)| entries[i] > value) {' 'if best.is_none_or(|(_, value)| entries[i] >= value) {'
+try change-of-32-bits src/aggregates.rs \
+    'Ok(entries[i] as i64 - standing as i64)' 'Ok(entries[i].wrapping_sub(standing) as i32 as i64)'

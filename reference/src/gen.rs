@@ -157,6 +157,14 @@ impl Adversary {
         Adversary { rng, weights, favoured, favour, crash_after_send, crash_after_deciding, last: None }
     }
 
+    /// One that crashes nobody.
+    pub fn without_crashes(seed: u64) -> Adversary {
+        let mut adversary = Adversary::new(seed);
+        adversary.weights[5] = 0;
+        (adversary.crash_after_send, adversary.crash_after_deciding) = (0, 0);
+        adversary
+    }
+
     /// A record that the bench accepts, if there is one but a crash.
     pub fn accepted(&mut self, bench: &Bench) -> Option<Record> {
         let choices = Accepted::of(bench);
@@ -244,10 +252,17 @@ pub fn wrong_length(rng: &mut Rng) -> Vec<u8> {
 
 /// Records to give one by one: mostly accepted, `noise` in 100 doubtful or of a wrong length.
 pub fn records(n: u8, t: u8, seed: u64, noise: usize) -> Vec<Vec<u8>> {
+    records_by(Adversary::new(seed), n, t, noise)
+}
+
+/// More records than any schedule has, with its noise: past this the rules are wrong.
+const ENDLESS: usize = 100_000;
+
+fn records_by(mut adversary: Adversary, n: u8, t: u8, noise: usize) -> Vec<Vec<u8>> {
     let mut bench = Bench::open(n, t).expect("a good size");
-    let mut adversary = Adversary::new(seed);
     let mut records = Vec::new();
     loop {
+        assert!(records.len() < ENDLESS, "n {n}, t {t}: a schedule without end");
         let record = if adversary.rng.percent(noise) {
             noisy(&mut adversary.rng, n, t)
         } else {
@@ -278,6 +293,11 @@ pub fn schedule(n: u8, t: u8, seed: u64, noise: usize) -> Vec<u8> {
         bytes.extend((0..1 + rng.below(7)).map(|_| rng.below(7) as u8));
     }
     bytes
+}
+
+/// A whole schedule in which nobody crashes, as one slice.
+pub fn schedule_without_crashes(n: u8, t: u8, seed: u64) -> Vec<u8> {
+    records_by(Adversary::without_crashes(seed), n, t, 0).concat()
 }
 
 /// A sound state that mostly no schedule reaches. With `junk`, also rows of no process of the

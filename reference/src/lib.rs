@@ -4,6 +4,8 @@
 
 pub mod aggregates;
 pub mod check;
+#[cfg(feature = "proved")]
+pub mod compare;
 pub mod counters;
 pub mod explore;
 pub mod gen;

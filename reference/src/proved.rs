@@ -1,4 +1,131 @@
-//! Reserved: the declarations of the proved library's calls, over the structs of `layout`.
+//! The proved library, over the structs of `layout`. `include/gerzulan.h` has the same for C.
 //!
-//! Nothing is here yet. The differential test goes to `tests/proved.rs`, behind the same feature,
-//! and takes its inputs from `gen`: `records`, `schedule`, `random_state` and `damage`.
+//! No call asks anything of its input but that it is what its type says. A call gives 0 or the number of its refusal;
+//! what is lent is untouched where it refuses.
+
+use crate::{Bench, Cause, Counters};
+
+/// How far a run came.
+#[repr(C)]
+#[derive(Clone, Copy, PartialEq, Eq, Debug, Default)]
+pub struct Progress {
+    pub accepted: u32,
+    pub taken: usize,
+}
+
+/// A slice passes as a pointer and a length.
+mod library {
+    use super::Progress;
+    use crate::{Bench, Counters};
+
+    extern "C" {
+        pub fn bench_open(bench: &mut Bench, n: u8, t: u8) -> u32;
+        pub fn bench_step(bench: &mut Bench, record: *const u8, length: usize, tally: &mut Counters) -> u32;
+        pub fn bench_run(
+            bench: &mut Bench,
+            schedule: *const u8,
+            length: usize,
+            budget: u32,
+            progress: &mut Progress,
+        ) -> u32;
+        pub fn bench_global_data(bench: &Bench, process: u8, out: *mut u32, length: usize) -> u64;
+        pub fn bench_in_transit(bench: &Bench, out: *mut u8, length: usize) -> u64;
+        pub fn aggregates_total(n: u8, entries: *const u32, length: usize, marks: u16, sum: &mut u64) -> u32;
+        pub fn aggregates_go(n: u8, entries: *const u32, length: usize, marks: u16, go: &mut u8) -> u32;
+        pub fn aggregates_lead(
+            n: u8,
+            entries: *const u32,
+            length: usize,
+            marks: u16,
+            process: &mut u8,
+            value: &mut u32,
+        ) -> u32;
+        pub fn aggregates_change(
+            n: u8,
+            entries: *const u32,
+            length: usize,
+            marks: u16,
+            process: u8,
+            standing: u32,
+            difference: &mut i64,
+        ) -> u32;
+    }
+}
+
+/// Opens a bench in place of `bench`; refused, `bench` stays.
+pub fn open(bench: &mut Bench, n: u8, t: u8) -> u32 {
+    // SAFETY: the bench has the library's layout.
+    unsafe { library::bench_open(bench, n, t) }
+}
+
+/// The call for one record.
+pub fn step(bench: &mut Bench, record: &[u8], tally: &mut Counters) -> u32 {
+    // SAFETY: the structs have the library's layout; the slice is passed whole.
+    unsafe { library::bench_step(bench, record.as_ptr(), record.len(), tally) }
+}
+
+/// The records accepted, the cause and the part not taken.
+pub fn run<'a>(bench: &mut Bench, schedule: &'a [u8], budget: u32) -> (u32, Cause, &'a [u8]) {
+    let mut progress = Progress::default();
+    // SAFETY: as in `step`.
+    let ended =
+        unsafe { library::bench_run(bench, schedule.as_ptr(), schedule.len(), budget, &mut progress) };
+    let cause = match ended {
+        0 => Cause::Done,
+        1 => Cause::Spent,
+        _ => Cause::Refused((ended - 16) as u8),
+    };
+    (progress.accepted, cause, &schedule[progress.taken..])
+}
+
+/// What is given, or the number of the refusal in the high half.
+fn given(answer: u64) -> Result<u64, u32> {
+    match answer >> 32 {
+        0 => Ok(answer),
+        number => Err(number as u32),
+    }
+}
+
+/// Writes what a process, from 1, has decided on, and gives its marks.
+pub fn global_data(bench: &Bench, process: u8, out: &mut [u32]) -> Result<u16, u32> {
+    // SAFETY: as in `step`.
+    let answer = unsafe { library::bench_global_data(bench, process, out.as_mut_ptr(), out.len()) };
+    given(answer).map(|marks| marks as u16)
+}
+
+/// Writes (a, b, r) for each message in transit, and gives how many there are.
+pub fn in_transit(bench: &Bench, out: &mut [u8]) -> Result<usize, u32> {
+    // SAFETY: as in `step`.
+    let answer = unsafe { library::bench_in_transit(bench, out.as_mut_ptr(), out.len()) };
+    given(answer).map(|messages| messages as usize)
+}
+
+pub fn total(n: u8, entries: &[u32], marks: u16, sum: &mut u64) -> u32 {
+    // SAFETY: the slice is passed whole.
+    unsafe { library::aggregates_total(n, entries.as_ptr(), entries.len(), marks, sum) }
+}
+
+/// 1 for go, else 0.
+pub fn go(n: u8, entries: &[u32], marks: u16, go: &mut u8) -> u32 {
+    // SAFETY: the slice is passed whole.
+    unsafe { library::aggregates_go(n, entries.as_ptr(), entries.len(), marks, go) }
+}
+
+pub fn lead(n: u8, entries: &[u32], marks: u16, process: &mut u8, value: &mut u32) -> u32 {
+    // SAFETY: the slice is passed whole.
+    unsafe { library::aggregates_lead(n, entries.as_ptr(), entries.len(), marks, process, value) }
+}
+
+pub fn change(
+    n: u8,
+    entries: &[u32],
+    marks: u16,
+    process: u8,
+    standing: u32,
+    difference: &mut i64,
+) -> u32 {
+    // SAFETY: the slice is passed whole.
+    unsafe {
+        library::aggregates_change(n, entries.as_ptr(), entries.len(), marks, process, standing, difference)
+    }
+}

@@ -7,11 +7,11 @@ use mathlib.Core.Bool.{true, false}
 use Prim.Native.Nat.{ℕ, zero, suc, _+_, _-_, _*_, _≤_, _<_}
 use native.Mathlib.Nat.{add-zero}
 use native.Mathlib.Omega.{arith}
-use lib.ListN.{length, getD, take, drop, length-take, length-drop}
+use lib.ListN.{length, getD, set, take, drop, length-take, length-drop}
 use lib.Seq.{drop-drop}
 use Rattle.sets.specs.Each.{each, getD-each}
 use Rattle.sets.specs.Every.{every}
-use Rattle.sets.specs.Set.{has}
+use Rattle.sets.specs.Set.{has, insertOf}
 use Rattle.sets.specs.Truth.{_&&_, choose, and-l, Is, on, off, is, clash, choose-on, choose-off, or-none-l, same-not}
 use Rattle.global_data.specs.declared.GlobalData.{GlobalData}
 use Rattle.global_data.specs.GlobalData.{noData, fillOf, fillFrom, sameTo, allSame, rowsOf}
@@ -26,7 +26,7 @@ use Rattle.bench.specs.declared.Event.the-variants.{Start, Send, Arrive, Close,
 use Rattle.bench.specs.declared.Decoded.{Decoded}
 use Rattle.bench.specs.declared.Decoded.the-variants.{Got, Refused}
 use Rattle.bench.specs.declared.Cause.the-variants.{Empty, Spent, Refused as RefusedRun}
-use Rattle.bench.specs.State.{processAt, sentAt, transitAt, crashedAt, withProcess}
+use Rattle.bench.specs.State.{processAt, sentAt, transitAt, crashedAt, withProcess, withSent, withCrashed}
 use Rattle.bench.specs.Sound.{soundOf}
 use Rattle.bench.specs.SoundLaws.{Bounds, sound-on, sound-step}
 use Rattle.bench.specs.Record.{decodeOf}
@@ -249,6 +249,33 @@ module _ (s : Bench) where
   unfolding refuses actor possible ready allowed crashedAt suspectCheck firstOf
   refuses-suspect a b = refl
 
+  -- a crash; m is the code's set
+  pub effect-crash : (a m : ℕ) → m ≡ insertOf (s .crashed) a
+      → record { n = s .n; t = s .t; crashed = m; processes = s .processes; sent = s .sent; in_transit = s .in_transit } ≡ effect (Crash a) s
+  unfolding effect withCrashed
+  effect-crash a m e = rw e
+
+  -- a has opened a round as p; i is the code's index of that round
+  abbrev pub openedAt : ℕ → ℕ → Process → Bench
+  openedAt a i p =
+      record {
+        n = s .n;
+        t = s .t;
+        crashed = s .crashed;
+        processes = set (s .processes) a p;
+        sent = set (s .sent) (a * 16 + i) (p .estimate);
+        in_transit = s .in_transit;
+      }
+
+  opened-at : (a i : ℕ) (p : Process) → i ≡ p .round - 1 → openedAt a i p ≡ opensRound s a p
+  unfolding opensRound withProcess withSent
+  opened-at a i p e = rw e
+
+  pub effect-start : (a v i : ℕ) (p : Process) → i ≡ p .round - 1 → p ≡ startOf (s .n) a v (processAt s a)
+      → openedAt a i p ≡ effect (Start a v) s
+  unfolding effect
+  effect-start a v i p e h = opened-at a i p e ∙ ap (opensRound s a) h
+
   pub effect-arrive : (a b : ℕ) (m : Message) → effect (Arrive a b m) s
       ≡ arrives (withProcess s b (arrivedAs (s .n) b a m (processAt s a .estimate) (processAt s b))) a (numberOf m) b
   unfolding effect arrivedAs numberOf
@@ -285,9 +312,10 @@ module _ (s : Bench) (a r : ℕ) (q : Process) (e : r ≡ processAt s a .round -
   unfolding effect closesAs
   effect-decides d = rw (← closed) (sym (choose-on (q .decided) (withProcess s a q) (opensRound s a q) d))
 
-  pub effect-opens : q .decided ≡ false → opensRound s a q ≡ effect (Close a) s
+  pub effect-opens : q .decided ≡ false → (i : ℕ) → i ≡ q .round - 1 → openedAt s a i q ≡ effect (Close a) s
   unfolding effect closesAs
-  effect-opens d = rw (← closed) (sym (choose-off (q .decided) (withProcess s a q) (opensRound s a q) d))
+  effect-opens d i j =
+      opened-at s a i q j ∙ rw (← closed) (sym (choose-off (q .decided) (withProcess s a q) (opensRound s a q) d))
 
   -- the round that it opens
   pub opened-round : q .decided ≡ false → (q .round ≡ processAt s a .round + 1) × (processAt s a .round ≢ s .t + 1)

@@ -12,13 +12,13 @@ use Rattle.bench.specs.declared.Event.{Event}
 use Rattle.bench.specs.declared.Event.the-variants.{Arrive}
 use Rattle.bench.specs.declared.Decoded.{Decoded}
 use Rattle.bench.specs.declared.Decoded.the-variants.{Got}
-use Rattle.bench.specs.State.{processAt, transitAt, withProcess, withSent, withTransit, withCrashed}
+use Rattle.bench.specs.State.{processAt, transitAt, withProcess, withTransit}
 use Rattle.bench.specs.SoundLaws.{sound-on}
 use Rattle.bench.specs.RecordLaws.{messageIn}
 use Rattle.bench.specs.Refuse.{refuses}
-use Rattle.bench.specs.Effect.{opensRound, sends, arrives, effect}
+use Rattle.bench.specs.Effect.{sends, arrives, effect}
 use Rattle.bench.specs.Calls.{endedOf}
-use Rattle.schedule.specs.Turns.{Running, running-new, Turn, ends-empty, ends-spent, ends-short, ends-unread, ends-by, goes, Low, turn-sizes, turn-round, turn-less, turn-low, number-low, message-low, start-round, close-started, refuses-start, refuses-send, refuses-arrive, refuses-close, refuses-crash, refuses-suspect, effect-arrive, effect-decides, effect-opens, rowsIn, opened-round}
+use Rattle.schedule.specs.Turns.{Running, running-new, Turn, ends-empty, ends-spent, ends-short, ends-unread, ends-by, goes, Low, turn-sizes, turn-round, turn-less, turn-low, number-low, message-low, start-round, close-started, refuses-start, refuses-send, refuses-arrive, refuses-close, refuses-crash, refuses-suspect, effect-start, effect-crash, effect-arrive, effect-decides, effect-opens, rowsIn, opened-round}
 use Rattle.schedule.proofs.run.steps.Statement.{statement}
 use Rattle.schedule.proofs.run.steps.Tie as tie
 
@@ -215,11 +215,11 @@ loop-less : tie.Need-loop-less Inv-loop μ-loop
 loop-less c = turn-less (turn (c .before .before .before .before .before .before .before .before .before .before .before .before))
 
 loop-again : tie.Need-loop-again Inv-loop μ-loop
-unfolding effect opensRound withProcess withSent processAt
+unfolding processAt
 loop-again c =
     goes _ _ _ _ _ _ _ (event (c .before .before .before .before .before .before .before .before .before) _ (c .before .before .before .before .before .before .before .e2 .given .1)) _
     (c .before .before .before .before .start-check .ensures ∙ sym (refuses-start _ _ _)) (c .before .before .before .if3 .left) _
-    (rw (c .round-index .ensures .0, c .before .before .start .ensures))
+    (effect-start _ _ _ _ _ (c .round-index .ensures .0) (c .before .before .start .ensures))
 
 -- ---- send
 enum-known-e-3 : tie.Need-enum-known-e-3 Inv-loop μ-loop
@@ -564,11 +564,11 @@ loop-less-5 : tie.Need-loop-less-5 Inv-loop μ-loop
 loop-less-5 c = turn-less (turn (c .before .before .before .before .before .before .before .before .before .before .before .before .before .before .before .before .before .before .before .before .before .before .before .before .before .before .before .before .before .before))
 
 loop-again-5 : tie.Need-loop-again-5 Inv-loop μ-loop
-unfolding opensRound withProcess withSent processAt
+unfolding processAt
 loop-again-5 c =
     goes _ _ _ _ _ _ _ (event (c .before .before .before .before .before .before .before .before .before .before .before .before .before .before .before .before .before .before .before .before .before .before .before .before .before .before .before) _ (c .before .before .before .before .before .before .before .before .before .before .before .before .before .before .before .before .before .before .before .before .before .before .before .before .before .e5 .given .1)) _
     (c .before .before .before .before .before .before .before .before .before .before .before .before .before .before .before .before .before .before .before .before .before .before .close-check .ensures ∙ sym (refuses-close _ _)) (c .before .before .before .before .before .before .before .before .before .before .before .before .before .before .before .before .before .before .before .before .before .if6 .left) _
-    (rw (c .round-index3 .ensures .0) (effect-opens _ _ _ _ (c .before .before .before .before .before .before .before .before .before .before .before .before .before .before .before .before .before .before .before .before .round-index2 .ensures .0) (closed (c .before .before .before)) (c .before .before .if7 .left)))
+    (effect-opens _ _ _ _ (c .before .before .before .before .before .before .before .before .before .before .before .before .before .before .before .before .before .before .before .before .round-index2 .ensures .0) (closed (c .before .before .before)) (c .before .before .if7 .left) _ (c .round-index3 .ensures .0))
 
 -- ---- crash
 enum-known-e-6 : tie.Need-enum-known-e-6 Inv-loop μ-loop
@@ -593,11 +593,10 @@ loop-less-6 : tie.Need-loop-less-6 Inv-loop μ-loop
 loop-less-6 c = turn-less (turn (c .before .before .before .before .before .before .before .before .before))
 
 loop-again-6 : tie.Need-loop-again-6 Inv-loop μ-loop
-unfolding effect withCrashed
 loop-again-6 c =
     goes _ _ _ _ _ _ _ (event (c .before .before .before .before .before .before) _ (c .before .before .before .before .e6 .given .1)) _
     (c .before .before .crash-check .ensures ∙ sym (refuses-crash _ _)) (c .before .if8 .left) _
-    (rw (c .insert2 .ensures))
+    (effect-crash _ _ _ (c .insert2 .ensures))
 
 -- ---- suspicion
 enum-known-e-7 : tie.Need-enum-known-e-7 Inv-loop μ-loop

@@ -1,0 +1,79 @@
+-- What the exported calls give as numbers: 0 or the number of a refusal, with the results in what the host lends.
+use mathlib.Core.Bool.{Bool, true, false}
+use mathlib.Core.List.{List}
+use Prim.Native.Nat.{ℕ, _+_, _*_}
+use Rattle.bench.specs.declared.Bench.{Bench}
+use Rattle.bench.specs.declared.Answer.{Answer}
+use Rattle.bench.specs.declared.Answer.the-variants.{Accepted, Refused}
+use Rattle.bench.specs.declared.Cause.{Cause}
+use Rattle.bench.specs.declared.Cause.the-variants.{Empty, Spent, Refused as RefusedRun}
+use Rattle.bench.specs.declared.Shown.{Shown}
+use Rattle.bench.specs.declared.Shown.the-variants.{Marks, Refused as RefusedShow}
+use Rattle.bench.specs.declared.Listed.{Listed}
+use Rattle.bench.specs.declared.Listed.the-variants.{Count, Refused as RefusedList}
+use Rattle.bench.specs.declared.Counters.{Counters}
+use Rattle.bench.specs.declared.Opened.{Opened}
+use Rattle.bench.specs.declared.Ended.{Ended}
+use Rattle.bench.specs.Calls.{openOf, stepOf, tallyOf, runOf}
+use Rattle.aggregates.specs.Answers as sums
+use Rattle.export.specs.declared.HostOpened.{HostOpened}
+use Rattle.export.specs.declared.HostStepped.{HostStepped}
+use Rattle.export.specs.declared.Progress.{Progress}
+use Rattle.export.specs.declared.HostRan.{HostRan}
+
+-- ---- answers as numbers
+unfoldable pub answerNumber : Answer → ℕ
+answerNumber Accepted = 0
+answerNumber (Refused r) = r .number
+
+-- why a run ended
+unfoldable pub causeNumber : Cause → ℕ
+causeNumber Empty = 0
+causeNumber Spent = 1
+causeNumber (RefusedRun r) = 16 + r .number
+
+-- what a reading call gives, or its refusal in the high half of 64 bits
+unfoldable pub shownNumber : Shown → ℕ
+shownNumber (Marks m) = m
+shownNumber (RefusedShow r) = r .number * 4294967296
+
+unfoldable pub listedNumber : Listed → ℕ
+listedNumber (Count k) = k
+listedNumber (RefusedList r) = r .number * 4294967296
+
+-- ---- a call with the bench by value
+-- a refused opening leaves the host's bench s
+unfoldable pub openedIn : Bench → Opened → Bench
+openedIn s o = kept (o .answer)
+  where
+    kept : Answer → Bench
+    kept Accepted = o .bench
+    kept (Refused r) = s
+
+unfoldable pub hostOpenedOf : Bench → ℕ → ℕ → HostOpened
+hostOpenedOf s n t = record { bench = openedIn s (openOf n t); number = answerNumber (openOf n t .answer) }
+
+unfoldable pub hostSteppedOf : Bench → List ℕ → Counters → HostStepped
+hostSteppedOf s l c = record { bench = stepOf s l .bench; counters = tallyOf s l c; number = answerNumber (stepOf s l .answer) }
+
+unfoldable pub progressOf : Ended → Progress
+progressOf e = record { accepted = e .accepted; taken = e .taken }
+
+unfoldable pub hostRanOf : ℕ → List ℕ → Bench → HostRan
+hostRanOf budget l s =
+    let e = runOf budget l s in
+    record { bench = e .bench; progress = progressOf e; number = causeNumber (e .cause) }
+
+-- ---- aggregates: the number, and a lent word after the call
+unfoldable pub refusalIn : {A : Type 0} → sums.Answer A → ℕ
+refusalIn (sums.refused k) = k
+refusalIn (sums.gives a) = 0
+
+-- f is the word of what is given; a refusal leaves what was there
+unfoldable pub wordIn : {A B : Type 0} → (A → B) → sums.Answer A → B → B
+wordIn f (sums.refused k) old = old
+wordIn f (sums.gives a) old = f a
+
+unfoldable pub bit : Bool → ℕ
+bit false = 0
+bit true = 1

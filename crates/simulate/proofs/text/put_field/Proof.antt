@@ -1,0 +1,31 @@
+-- `put_field` stores a space and the digits, of which there are at most ten.
+use native.Mathlib.Omega.{arith}
+use borrow.Author.Needs.{needs}
+use Rattle.simulate.specs.Text.{field}
+use Rattle.simulate.specs.TextLaws.{stores-then, short-number}
+use Rattle.simulate.proofs.text.put_field.Statement.{statement}
+use Rattle.simulate.proofs.text.put_field.Tie as tie
+
+put-byte-requires : tie.Need-put-byte-requires
+put-byte-requires c κs = search needs
+
+put-number-requires : tie.Need-put-number-requires
+put-number-requires c κs =
+    let p = c .before .before .before .put-byte in
+    omega (arith, c .before .before .before .before .before .before .pre, short-number (c .before .before .before .before .before .before .args .x) (c .before .before .before .before .before .before .fits .x .fits), p .ensures .place, p .kept .0)
+
+same-length : tie.Need-same-length
+same-length c = search needs
+
+returns : tie.Need-returns
+unfolding field
+returns c =
+    let p = c .before .before .before .before .before .before .put-byte in
+    let q = c .before .before .put-number in
+    record {
+      stores = stores-then (p .ensures) (q .ensures);
+      short = omega (arith, p .ensures .place, q .ensures .place, short-number (c .before .before .before .before .before .before .before .before .before .args .x) (c .before .before .before .before .before .before .before .before .before .fits .x .fits));
+    }
+
+pub put-field-spec : {M : Type 1} → statement M
+put-field-spec = tie.close (tie.spec put-byte-requires put-number-requires same-length returns)

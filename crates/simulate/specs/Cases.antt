@@ -1,0 +1,61 @@
+-- Case 4 of document 01, whole: the program's input and output, byte for byte, computed from the definitions.
+use mathlib.Core.Path.{_≡_, refl}
+use mathlib.Core.List.{List, [], _∷_}
+use Prim.Native.Nat.{ℕ}
+use lib.Count.{ones}
+use Rattle.sets.specs.Count.{bit}
+use Rattle.sets.specs.Each.{each}
+use Rattle.sets.specs.Every.{every as everyBelow}
+use Rattle.sets.specs.Set.{has, insertOf, removeOf, unionOf, intersectionOf, differenceOf, allOf, sizeOf}
+use Rattle.sets.specs.Truth.{_&&_, _||_, same, below, choose}
+use Rattle.global_data.specs.GlobalData.{entryOf, sameEntry, nothingOf, oneOf, filledWord, fillOf, fillFrom, sameTo, allSame}
+use Rattle.process.specs.Steps.{idleOf, takesPart, openOf, startOf, keeps, receiveOf, arrivedOf, dueOf, nextOf, peersOf, filledOf, agreedOf, decidesOf, owedOf, decideOf, advanceOf, closeOf, adoptOf, messageOf, sendOf, suspectOf}
+use Rattle.bench.specs.State.{processAt, sentAt, transitAt, crashedAt, withProcess, withSent, withTransit, withCrashed, openedOf}
+use Rattle.bench.specs.Sound.{opens, every, within, soundData, soundProcess, soundOf}
+use Rattle.bench.specs.Record.{wordOf, isProcess, usesB, usesR, usesValue, fieldB, fieldR, fieldValue, fields, messageFrom, eventOf, partsOf, decodeOf}
+use Rattle.bench.specs.Refuse.{check, numberOf, actor, possible, ready, allowed, refuses, refusesDecoded, refusal}
+use Rattle.bench.specs.Effect.{opensRound, rowsAt, sends, arrives, closesAs, effect, effectDecoded, effectOf}
+use Rattle.bench.specs.Calls.{openOf as openBench, after, joined}
+use Rattle.bench.specs.RunLaws.{restOf, recordAt, steps}
+use Rattle.simulate.specs.Text.{digits, decimal, field, lineOf, entryText, processText, processesText}
+use Rattle.simulate.specs.Output.{openingRefusal, unopened, openingOf, recordsIn, answerAt, lineAt, linesOf, afterAll, writtenAfter, outputOf}
+
+-- the opening record and the twelve
+pub input : List ℕ
+input =
+    0 ∷ 2 ∷ 1 ∷ 0 ∷ 0 ∷ 0 ∷ 0 ∷ 0
+    ∷ 1 ∷ 1 ∷ 0 ∷ 0 ∷ 40 ∷ 0 ∷ 0 ∷ 0
+    ∷ 1 ∷ 2 ∷ 0 ∷ 0 ∷ 25 ∷ 0 ∷ 0 ∷ 0
+    ∷ 2 ∷ 1 ∷ 2 ∷ 0 ∷ 0 ∷ 0 ∷ 0 ∷ 0
+    ∷ 2 ∷ 2 ∷ 1 ∷ 0 ∷ 0 ∷ 0 ∷ 0 ∷ 0
+    ∷ 3 ∷ 1 ∷ 2 ∷ 1 ∷ 0 ∷ 0 ∷ 0 ∷ 0
+    ∷ 3 ∷ 2 ∷ 1 ∷ 1 ∷ 0 ∷ 0 ∷ 0 ∷ 0
+    ∷ 4 ∷ 1 ∷ 0 ∷ 0 ∷ 0 ∷ 0 ∷ 0 ∷ 0
+    ∷ 5 ∷ 2 ∷ 0 ∷ 0 ∷ 0 ∷ 0 ∷ 0 ∷ 0
+    ∷ 2 ∷ 1 ∷ 2 ∷ 0 ∷ 0 ∷ 0 ∷ 0 ∷ 0
+    ∷ 4 ∷ 1 ∷ 0 ∷ 0 ∷ 0 ∷ 0 ∷ 0 ∷ 0
+    ∷ 6 ∷ 1 ∷ 2 ∷ 0 ∷ 0 ∷ 0 ∷ 0 ∷ 0
+    ∷ 4 ∷ 1 ∷ 0 ∷ 0 ∷ 0 ∷ 0 ∷ 0 ∷ 0 ∷ []
+
+pub output : List ℕ
+output =
+    49 ∷ 32 ∷ 48 ∷ 10
+    ∷ 50 ∷ 32 ∷ 48 ∷ 10
+    ∷ 51 ∷ 32 ∷ 48 ∷ 10
+    ∷ 52 ∷ 32 ∷ 48 ∷ 10
+    ∷ 53 ∷ 32 ∷ 48 ∷ 10
+    ∷ 54 ∷ 32 ∷ 48 ∷ 10
+    ∷ 55 ∷ 32 ∷ 48 ∷ 10
+    ∷ 56 ∷ 32 ∷ 48 ∷ 10
+    ∷ 57 ∷ 32 ∷ 48 ∷ 10
+    ∷ 49 ∷ 48 ∷ 32 ∷ 56 ∷ 10
+    ∷ 49 ∷ 49 ∷ 32 ∷ 48 ∷ 10
+    ∷ 49 ∷ 50 ∷ 32 ∷ 48 ∷ 10
+    ∷ 84 ∷ 32 ∷ 49 ∷ 32 ∷ 50 ∷ 32 ∷ 48 ∷ 32 ∷ 49 ∷ 32 ∷ 52 ∷ 48 ∷ 32 ∷ 50 ∷ 53 ∷ 10
+    ∷ 84 ∷ 32 ∷ 50 ∷ 32 ∷ 49 ∷ 32 ∷ 49 ∷ 32 ∷ 48 ∷ 32 ∷ 45 ∷ 32 ∷ 50 ∷ 53 ∷ 10 ∷ []
+
+pub case4 : outputOf input ≡ output
+unfolding input output digits decimal field lineOf entryText processText processesText bit
+    openingRefusal unopened openingOf recordsIn answerAt lineAt linesOf afterAll writtenAfter outputOf joined openBench restOf recordAt steps
+    has insertOf removeOf unionOf intersectionOf differenceOf allOf sizeOf ones _&&_ _||_ same below choose entryOf sameEntry each everyBelow nothingOf oneOf filledWord fillOf fillFrom sameTo allSame idleOf takesPart openOf startOf keeps receiveOf arrivedOf dueOf nextOf peersOf filledOf agreedOf decidesOf owedOf decideOf advanceOf closeOf adoptOf messageOf sendOf suspectOf processAt sentAt transitAt crashedAt withProcess withSent withTransit withCrashed openedOf opens every within soundData soundProcess soundOf wordOf isProcess usesB usesR usesValue fieldB fieldR fieldValue fields messageFrom eventOf partsOf decodeOf check numberOf actor possible ready allowed refuses refusesDecoded refusal opensRound rowsAt sends arrives closesAs effect effectDecoded effectOf after
+case4 = refl

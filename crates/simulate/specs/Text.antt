@@ -1,0 +1,49 @@
+-- The text that the program writes (document 01, "Lines are .."): numbers in decimal, a record's line and a process's line, in ASCII.
+use mathlib.Core.Bool.{Bool}
+use mathlib.Core.List.{List, [], _∷_, _++_}
+use Prim.Native.Nat.{ℕ, zero, suc, _+_, _/_, _%_}
+use Rattle.sets.specs.Count.{bit}
+use Rattle.sets.specs.Truth.{below, choose}
+use Rattle.global_data.specs.GlobalData.{Entry, absent, value, entryOf}
+use Rattle.process.specs.declared.Process.{Process}
+use Rattle.bench.specs.declared.Bench.{Bench}
+use Rattle.bench.specs.State.{processAt, crashedAt}
+use Rattle.bench.specs.Calls.{joined}
+
+-- at most k digits of x, the last one last
+unfoldable pub digits : ℕ → ℕ → List ℕ
+digits zero x = []
+digits (suc k) x = choose (below x 10) ((48 + x) ∷ []) (digits k (x / 10) ++ ((48 + x % 10) ∷ []))
+
+-- all of them, with no zero in front: x has no more than x + 1 digits
+unfoldable pub decimal : ℕ → List ℕ
+decimal x = digits (suc x) x
+
+-- a number after a space
+unfoldable pub field : ℕ → List ℕ
+field x = (32 ∷ []) ++ decimal x
+
+abbrev pub newline : List ℕ
+newline = 10 ∷ []
+
+-- the line of record k: its number, and 0 or the refusal
+unfoldable pub lineOf : ℕ → ℕ → List ℕ
+lineOf k refusal = decimal k ++ (field refusal ++ newline)
+
+-- an entry after a space; `-` is an absent one
+unfoldable pub entryText : Entry → List ℕ
+entryText absent = 32 ∷ 45 ∷ []
+entryText (value v) = field v
+
+-- the line of process a, from 0, of n: `T`, its number from 1, round, stopped, decided, and the entries of its estimate, which is its decision
+-- once it has decided
+unfoldable pub processText : ℕ → ℕ → Bool → Process → List ℕ
+processText n a crashed p =
+    (84 ∷ [])
+    ++ (field (a + 1)
+    ++ (field (p .round)
+    ++ (field (bit crashed)
+    ++ (field (bit (p .decided)) ++ (joined n (λ k. entryText (entryOf (p .estimate) k)) ++ newline)))))
+
+unfoldable pub processesText : Bench → List ℕ
+processesText s = joined (s .n) (λ a. processText (s .n) a (crashedAt s a) (processAt s a))

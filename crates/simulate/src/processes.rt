@@ -1,0 +1,81 @@
+// The lines of the processes: `T`, number, round, stopped, decided, and the entries of the estimate, which is the decision once it is taken.
+use crate::text::put_byte;
+use crate::text::put_field;
+use bench::Bench;
+use global_data::GlobalData;
+use process::Process;
+ghost use mathlib.Core.Path.{_≡_};
+ghost use mathlib.Core.List.{_++_};
+ghost use Prim.Native.Nat.{_+_, _*_, _≤_};
+ghost use lib.ListN.{length, drop};
+ghost use Rattle.sets.specs.Count.{bit};
+ghost use Rattle.global_data.specs.GlobalData.{entry, entryOf};
+ghost use Rattle.bench.specs.Calls.{joined};
+ghost use Rattle.simulate.specs.Text.{entryText, processText, processesText};
+ghost use Rattle.simulate.specs.TextLaws.{Puts};
+
+fn put_entry(out: &mut [u8], at: usize, present: bool, value: u32) -> usize
+    requires { ⌜ at + 11 ≤ length (now out) ⌝ }
+    ensures { λ r. ⌜ Puts 11 (now (out .entry)) at (entryText (entry present value)) (now (out .exit)) r ⌝ }
+{
+    if present {
+        put_field(out, at, value)
+    } else {
+        let p = put_byte(out, at, 32);
+        put_byte(out, p, 45)
+    }
+}
+
+// The entries below n.
+fn put_entries(out: &mut [u8], at: usize, n: u8, g: GlobalData) -> usize
+    requires { ⌜ (n ≤ 16) × (at + 11 * n ≤ length (now out)) ⌝ }
+    ensures { λ r. ⌜ Puts (11 * n) (now (out .entry)) at (joined n (λ k. entryText (entryOf g k))) (now (out .exit)) r ⌝ }
+{
+    let present = g.present;
+    let mut place = at;
+    let mut k = 0;
+    while k < n as usize {
+        place = put_entry(out, place, sets::member(present, k), g.values[k]);
+        k += 1;
+    }
+    place
+}
+
+fn flag(b: bool) -> u32
+    ensures { λ r. ⌜ r ≡ bit b ⌝ }
+{
+    if b { 1 } else { 0 }
+}
+
+// Process a, from 0, of n.
+fn put_process(out: &mut [u8], at: usize, n: u8, a: u8, crashed: bool, p: Process) -> usize
+    requires { ⌜ (n ≤ 16) × (at + 222 ≤ length (now out)) ⌝ }
+    ensures { λ r. ⌜ Puts 222 (now (out .entry)) at (processText n a crashed p) (now (out .exit)) r ⌝ }
+{
+    let g = p.estimate;
+    let letter = put_byte(out, at, 84);
+    let number = put_field(out, letter, a as u32 + 1);
+    let round = put_field(out, number, p.round as u32);
+    let crash = put_field(out, round, flag(crashed));
+    let decided = put_field(out, crash, flag(p.decided));
+    let entries = put_entries(out, decided, n, g);
+    put_byte(out, entries, 10)
+}
+
+// A line for each process, at the start of `out`.
+pub fn put_processes(b: Bench, out: &mut [u8]) -> usize
+    requires { ⌜ (b .n ≤ 16) × (222 * 16 ≤ length (now out)) ⌝ }
+    ensures { λ r. ⌜ r ≡ length (processesText b) ⌝ }
+    ensures { λ r. ⌜ now (out .exit) ≡ processesText b ++ drop r (now (out .entry)) ⌝ }
+{
+    let n = b.n;
+    let crashed = b.crashed;
+    let mut place = 0;
+    let mut a = 0u8;
+    while a < n {
+        let p = b.processes[a as usize];
+        place = put_process(out, place, n, a, sets::member(crashed, a as usize), p);
+        a += 1;
+    }
+    place
+}

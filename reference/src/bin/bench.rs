@@ -1,0 +1,149 @@
+//! The proved library's speed beside the reference's, in one run: times alternate, and medians are compared.
+//! `bench [repeats]`. The ratio is the proved library's time over the reference's.
+
+use reference::gen::{schedule, schedule_without_crashes, Rng};
+use reference::{gen, proved, Bench, Cause, Counters};
+use std::hint::black_box;
+use std::io::Write;
+use std::path::Path;
+use std::process::{Command, Stdio};
+use std::time::Instant;
+
+const SEEDS: std::ops::RangeInclusive<u64> = 1..=20;
+const MILLION: usize = 1_000_000;
+
+fn main() {
+    let repeats = std::env::args().nth(1).map_or(41, |word| word.parse().expect("a number"));
+    println!("state {} bytes; {repeats} repeats, alternating, medians", size_of::<Bench>());
+    println!("{:34} {:>12} {:>12} {:>7}", "ns each (records/s)", "proved", "reference", "ratio");
+    for n in [3, 12, 16] {
+        for crashes in [false, true] {
+            runs(n, crashes, repeats);
+        }
+    }
+    for n in [3, 12, 16] {
+        steps(n, repeats);
+    }
+    soundness(repeats);
+    program();
+}
+
+fn schedules(n: u8, crashes: bool) -> Vec<Vec<u8>> {
+    let one = if crashes { |n, seed| schedule(n, n - 1, seed, 0) } else { |n, seed| schedule_without_crashes(n, n - 1, seed) };
+    SEEDS.map(|seed| one(n, seed)).collect()
+}
+
+/// The run of whole schedules, each from an opened bench.
+fn runs(n: u8, crashes: bool, repeats: usize) {
+    let schedules = schedules(n, crashes);
+    let records: usize = schedules.iter().map(|bytes| bytes.len() / Bench::RECORD).sum();
+    let open = Bench::open(n, n - 1).expect("a good size");
+    let ours = || {
+        for bytes in &schedules {
+            let mut bench = open;
+            let (_, cause, _) = proved::run(black_box(&mut bench), bytes, u32::MAX);
+            assert_eq!(cause, Cause::Done);
+        }
+    };
+    let plain = || {
+        for bytes in &schedules {
+            let mut bench = open;
+            let (_, cause, _) = black_box(&mut bench).run(bytes, u32::MAX);
+            assert_eq!(cause, Cause::Done);
+        }
+    };
+    let kind = if crashes { "with crashes" } else { "no crashes" };
+    let mean = records / schedules.len();
+    report(&format!("run, n {n}, {kind}, {mean} records"), records, repeats, ours, plain);
+}
+
+/// The call for one record.
+fn steps(n: u8, repeats: usize) {
+    let schedules = schedules(n, false);
+    let records: usize = schedules.iter().map(|bytes| bytes.len() / Bench::RECORD).sum();
+    let open = Bench::open(n, n - 1).expect("a good size");
+    let each = |step: &dyn Fn(&mut Bench, &[u8], &mut Counters) -> u32| {
+        for bytes in &schedules {
+            let (mut bench, mut tally) = (open, Counters::default());
+            for record in bytes.chunks(Bench::RECORD) {
+                assert_eq!(step(black_box(&mut bench), record, &mut tally), 0);
+            }
+        }
+    };
+    let plain = |bench: &mut Bench, record: &[u8], tally: &mut Counters| bench.step_counted(record, tally) as u32;
+    report(&format!("one record, n {n}"), records, repeats, || each(&proved::step), || each(&plain));
+}
+
+/// The soundness check: the proved one by a run of nothing, which also copies the state in and out.
+fn soundness(repeats: usize) {
+    const TIMES: usize = 2000;
+    let mut bench = gen::random_state(&mut Rng::new(1), 16, 15, true);
+    let other = bench;
+    let ours = || (0..TIMES).for_each(|_| assert_eq!(proved::run(black_box(&mut bench), &[], 0).1, Cause::Done));
+    let plain = || (0..TIMES).for_each(|_| assert!(black_box(&other).is_sound()));
+    report("soundness, and the state copied", TIMES, repeats, ours, plain);
+}
+
+fn report(name: &str, things: usize, repeats: usize, mut ours: impl FnMut(), mut plain: impl FnMut()) {
+    let mut times: [Vec<f64>; 2] = Default::default();
+    for _ in 0..repeats {
+        times[0].push(time(&mut ours));
+        times[1].push(time(&mut plain));
+    }
+    let [x, y] = times.map(|times| median(times) / things as f64);
+    let speed = |each: f64| format!("{each:.1} ({:.1} M/s)", 1e3 / each);
+    println!("{name:34} {:>18} {:>18} {:>6.2}", speed(x), speed(y), x / y);
+}
+
+fn time(work: &mut impl FnMut()) -> f64 {
+    let clock = Instant::now();
+    work();
+    clock.elapsed().as_nanos() as f64
+}
+
+fn median(mut times: Vec<f64>) -> f64 {
+    times.sort_by(f64::total_cmp);
+    times[times.len() / 2]
+}
+
+/// The program on a million records, from a file to no output, and the reference's.
+fn program() {
+    let package = Path::new(env!("CARGO_MANIFEST_DIR"));
+    let simulate = package.join("../target/bin/simulate");
+    let reference = package.join("target/release/simulate_reference");
+    if !simulate.is_file() || !reference.is_file() {
+        println!("program: target/bin/simulate or simulate_reference is not built");
+        return;
+    }
+    let input = million();
+    let file = package.join("target/million.bin");
+    std::fs::File::create(&file).and_then(|mut file| file.write_all(&input)).expect("a file is written");
+    let (ours, plain) = (output(&simulate, &file), output(&reference, &file));
+    assert!(ours.1 == plain.1, "the programs differ");
+    println!("program, {MILLION} records, end to end: {:.2} s, reference {:.2} s, ratio {:.2}; the same {} bytes", ours.0, plain.0, ours.0 / plain.0, ours.1.len());
+}
+
+/// An opening record, a whole schedule of 16, and doubtful records.
+fn million() -> Vec<u8> {
+    let mut rng = Rng::new(1);
+    let mut input = vec![0, 16, 15, 0, 0, 0, 0, 0];
+    input.extend(schedule_without_crashes(16, 15, 1));
+    while input.len() < Bench::RECORD * (MILLION + 1) {
+        input.extend(gen::doubtful(&mut rng, 16, 15).bytes());
+    }
+    input
+}
+
+/// Seconds and what was written; the median of three.
+fn output(program: &Path, input: &Path) -> (f64, Vec<u8>) {
+    let mut runs: Vec<(f64, Vec<u8>)> = (0..3)
+        .map(|_| {
+            let file = std::fs::File::open(input).expect("it was written");
+            let clock = Instant::now();
+            let done = Command::new(program).stdin(Stdio::from(file)).output().expect("it runs");
+            (clock.elapsed().as_secs_f64(), done.stdout)
+        })
+        .collect();
+    runs.sort_by(|x, y| x.0.total_cmp(&y.0));
+    runs.swap_remove(1)
+}

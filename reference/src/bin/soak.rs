@@ -1,0 +1,18 @@
+//! `soak [minutes [seed]]`: the differential test with one seed after another.
+
+use reference::compare::{everything, Met};
+use std::time::{Duration, Instant};
+
+fn main() {
+    let words: Vec<u64> = std::env::args().skip(1).map(|word| word.parse().expect("a number")).collect();
+    let minutes = words.first().copied().unwrap_or(1);
+    let first = words.get(1).copied().unwrap_or(1);
+    let clock = Instant::now();
+    let mut met = Met::default();
+    let mut seed = first;
+    while clock.elapsed() < Duration::from_secs(60 * minutes) {
+        met.add(&everything(seed, 1));
+        seed += 1;
+        println!("seeds {first} to {}: {}", seed - 1, met.report());
+    }
+}

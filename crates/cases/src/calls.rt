@@ -41,7 +41,7 @@ pub fn opening(n: u8, t: u8) -> u64 {
 }
 
 // A damaged bench: n 3, t 1, process 2 in round 3.
-pub fn damaged() -> Bench {
+fn damaged() -> Bench {
     let mut b = opened(3, 1);
     let mut p = b.processes[1];
     p.round = 3;
@@ -71,9 +71,17 @@ pub fn refused(b: Bench, records: &[u8]) -> u64 {
     }
 }
 
-// Whether a run ends because the schedule is empty, and because the budget is spent.
-pub fn is_empty(b: Bench, records: &[u8], budget: u32) -> u64 {
-    let e = run_bytes(b, records, budget);
+pub fn damaged_runs() -> u64 {
+    refused(damaged(), &[4, 1, 0, 0, 0, 0, 0, 0])
+}
+
+pub fn damaged_runs_nothing() -> u64 {
+    refused(damaged(), &[])
+}
+
+// Whether a run of a new bench ends because the schedule is empty, and because the budget is spent.
+pub fn is_empty(records: &[u8], budget: u32) -> u64 {
+    let e = run_bytes(opened(3, 1), records, budget);
     let cause = e.cause;
     match cause {
         Cause::Empty => 1,
@@ -82,8 +90,8 @@ pub fn is_empty(b: Bench, records: &[u8], budget: u32) -> u64 {
     }
 }
 
-pub fn is_spent(b: Bench, records: &[u8], budget: u32) -> u64 {
-    let e = run_bytes(b, records, budget);
+pub fn is_spent(records: &[u8], budget: u32) -> u64 {
+    let e = run_bytes(opened(3, 1), records, budget);
     let cause = e.cause;
     match cause {
         Cause::Empty => 0,
@@ -92,11 +100,32 @@ pub fn is_spent(b: Bench, records: &[u8], budget: u32) -> u64 {
     }
 }
 
-// The call for one record.
-pub fn record(b: Bench, bytes: &[u8]) -> u64 {
+// The call for one record, given any bytes.
+fn step(b: Bench, bytes: &[u8]) -> u64 {
     let s = step_bytes(b, bytes);
     let a = s.answer;
     of_answer(a)
+}
+
+// Given a whole record with neither round nor value.
+pub fn record(b: Bench, kind: u8, a: u8, other: u8) -> u64 {
+    step(b, &[kind, a, other, 0, 0, 0, 0, 0])
+}
+
+pub fn new_record(n: u8, t: u8, kind: u8, a: u8, other: u8) -> u64 {
+    record(opened(n, t), kind, a, other)
+}
+
+pub fn damaged_record(kind: u8, a: u8) -> u64 {
+    record(damaged(), kind, a, 0)
+}
+
+pub fn short_record(kind: u8, a: u8) -> u64 {
+    step(opened(3, 1), &[kind, a, 0, 0, 0, 0, 0])
+}
+
+pub fn damaged_short_record() -> u64 {
+    step(damaged(), &[4, 1])
 }
 
 // The call for a process's global data, with a lent slice.
@@ -107,12 +136,24 @@ pub fn shown(b: Bench, process: u8, out: &mut [u32]) -> u64 {
     }
 }
 
+pub fn new_shows(process: u8, out: &mut [u32]) -> u64 {
+    shown(opened(3, 1), process, out)
+}
+
+pub fn damaged_shows(process: u8) -> u64 {
+    shown(damaged(), process, &mut [0; 3])
+}
+
 // The call for the list in transit, with a lent slice.
 pub fn listed(b: Bench, out: &mut [u8]) -> u64 {
     match in_transit(b, out) {
         Listed::Count(_) => 0,
         Listed::Refused(r) => r.number as u64,
     }
+}
+
+pub fn damaged_lists(out: &mut [u8]) -> u64 {
+    listed(damaged(), out)
 }
 
 pub fn total(n: u8, entries: &[u32], marks: u16) -> u64 {
@@ -139,8 +180,8 @@ pub fn lead(n: u8, entries: &[u32], marks: u16) -> u64 {
     }
 }
 
-pub fn change(n: u8, entries: &[u32], marks: u16, process: u8, standing: u32) -> u64 {
-    match aggregates::change(n, entries, marks, process, standing) {
+pub fn change(n: u8, entries: &[u32], marks: u16, process: u8) -> u64 {
+    match aggregates::change(n, entries, marks, process, 4) {
         ChangeAnswer::Difference(_) => 0,
         ChangeAnswer::Refused(r) => r.number as u64,
     }

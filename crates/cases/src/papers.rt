@@ -57,15 +57,19 @@ fn two() {
     say_decision(b"case.2", b);
 }
 
+// Record 10 is refused, and the two after it are accepted.
 fn four() {
-    let close = [4, 1, 0, 0, 0, 0, 0, 0];
-    say(b"case.4", b".record-10", record(nine(), &close));
-    say(b"case.4", b".run-of-record-10", refused(nine(), &close));
+    say(b"case.4", b".record-10", record(nine(), 4, 1, 0));
     say(
         b"case.4",
-        b".accepted-after-it",
-        accepted(nine(), &[6, 1, 2, 0, 0, 0, 0, 0, 4, 1, 0, 0, 0, 0, 0, 0]),
+        b".run-of-record-10",
+        refused(nine(), &[4, 1, 0, 0, 0, 0, 0, 0]),
     );
+    let rest = [6, 1, 2, 0, 0, 0, 0, 0, 4, 1, 0, 0, 0, 0, 0, 0];
+    say(b"case.4", b".accepted-after-it", accepted(nine(), &rest));
+}
+
+fn end_of_four() {
     let b = twelve();
     say_process(b"case.4.process-1", b.processes[0]);
     say_decision(b"case.4.process-1", b);
@@ -73,24 +77,29 @@ fn four() {
     say(b"case.4", b".crashed", b.crashed as u64);
 }
 
-fn five_to_eight() {
+fn five_and_six() {
     say(b"case.5", b".n-16", opening(16, 15));
     say(b"case.5", b".n-17", opening(17, 0));
     say(b"case.5", b".n-0", opening(0, 0));
-    say(
-        b"case.6",
-        b".crash-1",
-        record(twelve(), &[5, 1, 0, 0, 0, 0, 0, 0]),
-    );
+    say(b"case.6", b".crash-1", record(twelve(), 5, 1, 0));
+}
+
+fn seven() {
     let b = arrived_then_suspected();
     say_process(b"case.7", b.processes[0]);
-    let c = equal_with_sets_differing();
-    say_process(b"case.8", c.processes[0]);
+}
+
+fn eight() {
+    let b = equal_with_sets_differing();
+    say_process(b"case.8", b.processes[0]);
 }
 
 pub fn all() {
     one_and_three();
     two();
     four();
-    five_to_eight();
+    end_of_four();
+    five_and_six();
+    seven();
+    eight();
 }

@@ -170,7 +170,8 @@ impl Pair {
     fn aggregates(&mut self, rng: &mut Rng, n: u8, entries: &[u32], marks: u16) {
         let (standing, old) = (rng.value(), rng.draw());
         let process = rng.pick(&[0, 1, 2, n, n.wrapping_add(1), old as u8]);
-        let (mut sum, mut went, mut leader, mut value, mut moved) = (old, old as u8, old as u8, old as u32, old as i64);
+        let (mut sum, mut went, mut leader, mut value, mut moved) =
+            (old, old as u8, old as u8, old as u32, old as i64);
         let total = proved::total(n, entries, marks, &mut sum);
         let go = proved::go(n, entries, marks, &mut went);
         let lead = proved::lead(n, entries, marks, &mut leader, &mut value);

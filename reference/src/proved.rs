@@ -116,14 +116,7 @@ pub fn lead(n: u8, entries: &[u32], marks: u16, process: &mut u8, value: &mut u3
     unsafe { library::aggregates_lead(n, entries.as_ptr(), entries.len(), marks, process, value) }
 }
 
-pub fn change(
-    n: u8,
-    entries: &[u32],
-    marks: u16,
-    process: u8,
-    standing: u32,
-    difference: &mut i64,
-) -> u32 {
+pub fn change(n: u8, entries: &[u32], marks: u16, process: u8, standing: u32, difference: &mut i64) -> u32 {
     // SAFETY: the slice is passed whole.
     unsafe {
         library::aggregates_change(n, entries.as_ptr(), entries.len(), marks, process, standing, difference)

@@ -29,7 +29,11 @@ fn main() {
 }
 
 fn schedules(n: u8, crashes: bool) -> Vec<Vec<u8>> {
-    let one = if crashes { |n, seed| schedule(n, n - 1, seed, 0) } else { |n, seed| schedule_without_crashes(n, n - 1, seed) };
+    let one = if crashes {
+        |n, seed| schedule(n, n - 1, seed, 0)
+    } else {
+        |n, seed| schedule_without_crashes(n, n - 1, seed)
+    };
     SEEDS.map(|seed| one(n, seed)).collect()
 }
 
@@ -70,7 +74,8 @@ fn steps(n: u8, repeats: usize) {
             }
         }
     };
-    let plain = |bench: &mut Bench, record: &[u8], tally: &mut Counters| bench.step_counted(record, tally) as u32;
+    let plain =
+        |bench: &mut Bench, record: &[u8], tally: &mut Counters| bench.step_counted(record, tally) as u32;
     report(&format!("one record, n {n}"), records, repeats, || each(&proved::step), || each(&plain));
 }
 
@@ -79,7 +84,8 @@ fn soundness(repeats: usize) {
     const TIMES: usize = 2000;
     let mut bench = gen::random_state(&mut Rng::new(1), 16, 15, true);
     let other = bench;
-    let ours = || (0..TIMES).for_each(|_| assert_eq!(proved::run(black_box(&mut bench), &[], 0).1, Cause::Done));
+    let ours =
+        || (0..TIMES).for_each(|_| assert_eq!(proved::run(black_box(&mut bench), &[], 0).1, Cause::Done));
     let plain = || (0..TIMES).for_each(|_| assert!(black_box(&other).is_sound()));
     report("soundness, and the state copied", TIMES, repeats, ours, plain);
 }
@@ -120,7 +126,13 @@ fn program() {
     std::fs::File::create(&file).and_then(|mut file| file.write_all(&input)).expect("a file is written");
     let (ours, plain) = (output(&simulate, &file), output(&reference, &file));
     assert!(ours.1 == plain.1, "the programs differ");
-    println!("program, {MILLION} records, end to end: {:.2} s, reference {:.2} s, ratio {:.2}; the same {} bytes", ours.0, plain.0, ours.0 / plain.0, ours.1.len());
+    println!(
+        "program, {MILLION} records, end to end: {:.2} s, reference {:.2} s, ratio {:.2}; the same {} bytes",
+        ours.0,
+        plain.0,
+        ours.0 / plain.0,
+        ours.1.len()
+    );
 }
 
 /// An opening record, a whole schedule of 16, and doubtful records.

@@ -31,6 +31,20 @@ idleOf =
 unfoldable pub takesPart : Process → Bool
 takesPart p = below 0 (p .round) && not (p .decided)
 
+-- ---- step 1, start: the estimate is absent but for its own value; previous: all n; current: all n without those it suspects
+abbrev pub begunOf : ℕ → ℕ → ℕ → Process → Process
+begunOf n a v p =
+    record {
+      round = 0;
+      decided = p .decided;
+      previous = allOf n;
+      current = differenceOf (allOf n) (p .suspected);
+      suspected = p .suspected;
+      outbox = p .outbox;
+      estimate = oneOf a v;
+      received = p .received;
+    }
+
 -- ---- step 2, opening a round: it owes its estimate to each other member of its current set. Which estimate that is, the bench holds.
 unfoldable pub openOf : ℕ → Process → Process
 openOf a p =
@@ -45,20 +59,9 @@ openOf a p =
       received = p .received;
     }
 
--- ---- step 1, start: the estimate is absent but for its own value; previous: all n; current: all n without those it suspects; round 1 opens
+-- steps 1 and 2 together: round 1 opens
 unfoldable pub startOf : ℕ → ℕ → ℕ → Process → Process
-startOf n a v p =
-    openOf a
-    (record {
-      round = 0;
-      decided = p .decided;
-      previous = allOf n;
-      current = differenceOf (allOf n) (p .suspected);
-      suspected = p .suspected;
-      outbox = p .outbox;
-      estimate = oneOf a v;
-      received = p .received;
-    })
+startOf n a v p = openOf a (begunOf n a v p)
 
 -- ---- step 3, arrival of an estimate of round r from y: kept for a round not yet reached, or for this round from the current set; else nothing changes
 unfoldable pub keeps : Process → ℕ → ℕ → Bool
@@ -109,6 +112,21 @@ agreedOf n a rows p =
 unfoldable pub decidesOf : ℕ → ℕ → ℕ → (ℕ → GlobalData) → Process → Bool
 decidesOf n t a rows p = same (p .round) (t + 1) || agreedOf n a rows p
 
+-- ---- step 5, otherwise: previous becomes current, current becomes next, and the next round opens
+unfoldable pub advanceOf : ℕ → (ℕ → GlobalData) → Process → Process
+advanceOf a rows p =
+    openOf a
+    (record {
+      round = p .round;
+      decided = p .decided;
+      previous = p .current;
+      current = nextOf a p;
+      suspected = p .suspected;
+      outbox = p .outbox;
+      estimate = filledOf a rows p;
+      received = p .received;
+    })
+
 -- ---- step 6, after deciding: whom it owes the decision, all but itself and those it suspects by then
 unfoldable pub owedOf : ℕ → ℕ → Process → ℕ
 owedOf n a p = differenceOf (removeOf (allOf n) a) (p .suspected)
@@ -127,22 +145,7 @@ decideOf g m p =
       received = p .received;
     }
 
--- ---- step 5, otherwise: previous becomes current, current becomes next, and the next round opens
-unfoldable pub advanceOf : ℕ → (ℕ → GlobalData) → Process → Process
-advanceOf a rows p =
-    openOf a
-    (record {
-      round = p .round;
-      decided = p .decided;
-      previous = p .current;
-      current = nextOf a p;
-      suspected = p .suspected;
-      outbox = p .outbox;
-      estimate = filledOf a rows p;
-      received = p .received;
-    })
-
--- steps 4 and 5 together
+-- steps 4 to 6 together
 unfoldable pub closeOf : ℕ → ℕ → ℕ → (ℕ → GlobalData) → Process → Process
 closeOf n t a rows p =
     choose (decidesOf n t a rows p) (decideOf (filledOf a rows p) (owedOf n a p) p) (advanceOf a rows p)

@@ -3,13 +3,13 @@
 use mathlib.Core.Path.{_≡_, refl}
 use mathlib.Core.Logic.{⊎-elim}
 use mathlib.Core.List.{List, [], _∷_}
-use mathlib.Core.Bool.{Bool, true}
-use Prim.Native.Nat.{ℕ, zero, suc, _^_, _<_}
+use mathlib.Core.Bool.{Bool, true, false}
+use Prim.Native.Nat.{ℕ, zero, suc, _^_, _≤_, _<_}
 use native.Mathlib.Omega.{arith}
 use lib.ListN.{getD, set, replicate}
 use lib.Pow.{pow-pos}
 use Rattle.sets.specs.Laws.{insert-lt, remove-lt}
-use Rattle.sets.specs.Truth.{Is, on, off, is, choose-on, choose-off, and-l, and-r, and-mk, below-on, below-mk, eq-or}
+use Rattle.sets.specs.Truth.{_&&_, Is, on, off, is, clash, choose-on, choose-off, and-l, and-r, and-mk, and-on-r, below-on, below-mk, eq-or}
 use Rattle.global_data.specs.declared.GlobalData.{GlobalData}
 use Rattle.global_data.specs.GlobalData.{noData, nothingOf}
 use Rattle.process.specs.declared.Process.{Process}
@@ -53,6 +53,43 @@ module _ {A : Type 0} where
   each-replicate P d zero v h w i = h
   each-replicate P d (suc n) v h w zero = w
   each-replicate P d (suc n) v h w (suc i) = each-replicate P d n v h w i
+
+-- five tests, of which the fourth is made last
+swap-off : (a b c d e : Bool) → (a && (b && (c && e))) ≡ false → (a && (b && (c && (d && e)))) ≡ false
+unfolding _&&_
+swap-off true true true true e p = p
+swap-off true true true false e p = refl
+swap-off true true false d e p = refl
+swap-off true false c d e p = refl
+swap-off false b c d e p = refl
+
+swap-on : (a b c d e : Bool) → (a && (b && (c && e))) ≡ true → (a && (b && (c && (d && e)))) ≡ d
+unfolding _&&_
+swap-on true true true d e p = and-on-r d e p
+swap-on true true false d e p = clash false p refl
+swap-on true false c d e p = clash false p refl
+swap-on false b c d e p = clash false p refl
+
+-- ---- soundness in two parts: the rows of `sent`, and all else
+unfoldable pub soundParts : ℕ → ℕ → ℕ → List Process → List ℕ → Bool
+soundParts n t crashed processes words =
+    opens n t && (within n crashed && (every (soundProcess n t) processes && every (within n) words))
+
+pub parts-small : (n t crashed : ℕ) (processes : List Process) (words : List ℕ) → soundParts n t crashed processes words ≡ true → n ≤ 16
+unfolding soundParts opens
+parts-small n t crashed processes words e = omega (arith, below-on n 17 (and-l _ _ (and-r _ _ (and-l _ _ e))))
+
+module _ (b : Bench) where
+  abbrev parts : Bool
+  parts = soundParts (b .n) (b .t) (b .crashed) (b .processes) (b .in_transit)
+
+  pub sound-off : parts ≡ false → soundOf b ≡ false
+  unfolding soundParts soundOf
+  sound-off e = swap-off _ _ _ _ _ e
+
+  pub sound-rows : parts ≡ true → soundOf b ≡ every (soundData (b .n)) (b .sent)
+  unfolding soundParts soundOf
+  sound-rows e = swap-on _ _ _ _ _ e
 
 -- ---- soundness as bounds; those of one process are `Within` of process
 pub record Bounds (s : Bench) : Type 0 where

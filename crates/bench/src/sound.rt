@@ -5,6 +5,7 @@ use process::Process;
 ghost use mathlib.Core.Path.{_≡_};
 ghost use Prim.Native.Nat.{_≤_};
 ghost use Rattle.bench.specs.Sound.{opens, every, within, soundData, soundProcess, soundOf};
+ghost use Rattle.bench.specs.SoundLaws.{soundParts};
 
 // n is 1 to 16, and t below n.
 pub fn sizes_open(n: u8, t: u8) -> bool
@@ -14,7 +15,7 @@ pub fn sizes_open(n: u8, t: u8) -> bool
 }
 
 // No member at or past n.
-fn set_within(n: u8, m: u16) -> bool
+pub fn set_within(n: u8, m: u16) -> bool
     requires { ⌜ n ≤ 16 ⌝ }
     ensures { λ r. ⌜ r ≡ within n m ⌝ }
 {
@@ -76,18 +77,26 @@ fn rows_within(n: u8, rows: [GlobalData; 256]) -> bool
     ok
 }
 
+// All but the rows of `sent`, which a run tests where they lie.
+pub fn parts_sound(n: u8, t: u8, crashed: u16, processes: [Process; 16], words: [u16; 272]) -> bool
+    ensures { λ r. ⌜ r ≡ soundParts n t crashed processes words ⌝ }
+{
+    if !sizes_open(n, t) {
+        return false;
+    }
+    set_within(n, crashed) & (processes_sound(n, t, processes) & sets_within(n, &words))
+}
+
 // Every process, row and set counts, used or not.
 pub fn is_sound(b: Bench) -> bool
     ensures { λ r. ⌜ r ≡ soundOf b ⌝ }
 {
     let n = b.n;
-    let t = b.t;
-    if !sizes_open(n, t) {
+    let processes = b.processes;
+    let words = b.in_transit;
+    if !parts_sound(n, b.t, b.crashed, processes, words) {
         return false;
     }
-    let processes = b.processes;
     let rows = b.sent;
-    let words = b.in_transit;
-    set_within(n, b.crashed)
-        & (processes_sound(n, t, processes) & (rows_within(n, rows) & sets_within(n, &words)))
+    rows_within(n, rows)
 }

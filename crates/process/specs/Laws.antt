@@ -8,14 +8,16 @@ use Prim.Native.Nat.{ℕ, zero, suc, _+_, _-_, _^_, _≤_, _<_}
 use native.Mathlib.Omega.{arith}
 use lib.ListN.{length, getD, set, replicate, length-set}
 use lib.Pow.{pow-pos}
-use Rattle.sets.specs.Set.{has, removeOf, allOf}
-use Rattle.sets.specs.Truth.{_&&_, _||_, same, below, choose, and-l, and-r, and-mk, and-cases, and-on-l, or-mk-l, or-mk-r, or-off-l, or-none-l, or-none-r, not-on, not-off, off-by, clash, same-on, same-mk, same-off, same-not, choose-on, choose-off}
+use lib.Seq.{getD-set-same, getD-set-other}
+use Rattle.sets.specs.Set.{has, insertOf, removeOf, allOf}
+use Rattle.sets.specs.Each.{each, each-getD}
+use Rattle.sets.specs.Truth.{_&&_, _||_, same, below, choose, Is, on, off, is, and-l, and-r, and-mk, and-cases, and-on-l, or-mk-l, or-mk-r, or-off-l, or-none-l, or-none-r, not-on, not-off, off-by, clash, same-on, same-mk, same-off, same-not, eq-or, choose-on, choose-off}
 use Rattle.sets.specs.Laws.{has-insert, has-remove, has-union, has-intersection, has-difference, has-all, nothing-in, empty-by, all-lt, insert-lt, remove-lt, difference-lt, intersection-lt}
 use Rattle.global_data.specs.declared.GlobalData.{GlobalData}
 use Rattle.global_data.specs.GlobalData.{nothingOf, oneOf, sameTo, allSame}
 use Rattle.global_data.specs.Laws.{fillFrom-lt}
 use Rattle.process.specs.declared.Process.{Process}
-use Rattle.process.specs.Steps.{idleOf, takesPart, openOf, startOf, receiveOf, arrivedOf, dueOf, nextOf, peersOf, filledOf, agreedOf, decidesOf, owedOf, decideOf, advanceOf, closeOf, adoptOf, sendOf, suspectOf}
+use Rattle.process.specs.Steps.{idleOf, takesPart, openOf, startOf, keeps, receiveOf, arrivedOf, dueOf, nextOf, peersOf, filledOf, agreedOf, decidesOf, owedOf, decideOf, advanceOf, closeOf, adoptOf, sendOf, suspectOf}
 
 -- ---- a step by cases
 -- what holds of both holds of the chosen one
@@ -38,6 +40,66 @@ advanceTo a g p =
       estimate = g;
       received = p .received;
     })
+
+-- the sets of l, with y in the one at `at`, each written anew
+unfoldable pub wordsWith : List ℕ → ℕ → ℕ → List ℕ
+wordsWith l at y = each 16 (λ j. choose (same at j) (insertOf (getD l j 0) y) (getD l j 0))
+
+module _ (l : List ℕ) (at y : ℕ) (e : length l ≡ 16) where
+  -- the one at `at` changes
+  pub words-set : at < 16 → wordsWith l at y ≡ set l at (insertOf (getD l at 0) y)
+  unfolding wordsWith
+  words-set h =
+      sym (each-getD 16 (λ j. choose (same at j) (insertOf (getD l j 0) y) (getD l j 0)) 0 (set l at (insertOf (getD l at 0) y))
+      (length-set l at (insertOf (getD l at 0) y) ∙ e) (λ k b. go k (eq-or at k)))
+    where
+      go : (k : ℕ) → (at ≡ k) ⊎ (at ≢ k)
+          → getD (set l at (insertOf (getD l at 0) y)) k 0 ≡ choose (same at k) (insertOf (getD l k 0) y) (getD l k 0)
+      go k (inl p) =
+          rw (choose-on (same at k) (insertOf (getD l k 0) y) (getD l k 0) (same-mk at k p), ← p)
+          (getD-set-same l at (insertOf (getD l at 0) y) 0 (omega arith))
+      go k (inr p) =
+          rw (choose-off (same at k) (insertOf (getD l k 0) y) (getD l k 0) (same-off at k p))
+          (getD-set-other l at k (insertOf (getD l at 0) y) 0 (λ q. p (sym q)))
+
+  -- past the last, none does
+  pub words-kept : 16 ≤ at → wordsWith l at y ≡ l
+  unfolding wordsWith
+  words-kept h =
+      sym (each-getD 16 (λ j. choose (same at j) (insertOf (getD l j 0) y) (getD l j 0)) 0 l e
+      (λ k b. sym (choose-off (same at k) (insertOf (getD l k 0) y) (getD l k 0) (same-off at k (λ p. omega (arith, p))))))
+
+-- step 3 with every set written anew; past the last where the estimate is not kept
+pub receive-words : (y r at : ℕ) (p : Process) → length (p .received) ≡ 16 → r ≤ 16 → 1 ≤ r → at ≡ choose (keeps p y r) (r - 1) 16
+    → record {
+      round = p .round;
+      decided = p .decided;
+      previous = p .previous;
+      current = p .current;
+      suspected = p .suspected;
+      outbox = p .outbox;
+      estimate = p .estimate;
+      received = wordsWith (p .received) at y;
+    } ≡ receiveOf y r p
+unfolding receiveOf
+receive-words y r at p e h l a = go (is (keeps p y r))
+  where
+    go : Is (keeps p y r) → record {
+      round = p .round;
+      decided = p .decided;
+      previous = p .previous;
+      current = p .current;
+      suspected = p .suspected;
+      outbox = p .outbox;
+      estimate = p .estimate;
+      received = wordsWith (p .received) at y;
+    } ≡ receiveOf y r p
+    go (on k) =
+        let b : at ≡ r - 1 = a ∙ choose-on (keeps p y r) (r - 1) 16 k in
+        rw (choose-on (keeps p y r) _ p k, words-set (p .received) at y e (omega arith), b)
+    go (off k) =
+        let b : at ≡ 16 = a ∙ choose-off (keeps p y r) (r - 1) 16 k in
+        rw (choose-off (keeps p y r) _ p k, words-kept (p .received) at y e (omega arith))
 
 pub advance-filled : (a : ℕ) (rows : ℕ → GlobalData) (p : Process) → advanceOf a rows p ≡ advanceTo a (filledOf a rows p) p
 unfolding advanceOf advanceTo

@@ -3,7 +3,9 @@ ghost use mathlib.Core.Path.{_≡_};
 ghost use Prim.Native.Nat.{_<_, _≤_};
 ghost use Rattle.global_data.specs.GlobalData.{rowsOf};
 ghost use Rattle.process.specs.Steps.{idleOf, takesPart, openOf, startOf, keeps, receiveOf, arrivedOf, dueOf, nextOf, peersOf, filledOf, agreedOf, decidesOf, owedOf, decideOf, closeOf, adoptOf, messageOf, sendOf, suspectOf};
-ghost use Rattle.process.specs.Laws.{advanceTo};
+ghost use Rattle.process.specs.Laws.{advanceTo, wordsWith};
+ghost use Rattle.sets.specs.Truth.{choose};
+ghost use Rattle.sets.specs.Set.{insertOf};
 use global_data::GlobalData;
 use global_data::fill_from;
 use global_data::same_all;
@@ -25,6 +27,39 @@ pub struct Process {
     pub estimate: GlobalData,
     // for each round from 1, whose estimates have arrived and are kept
     pub received: [u16; 16],
+}
+
+// A set, with y in it where `put` says so.
+fn word_with(m: u16, put: bool, y: usize) -> u16
+    requires { ⌜ y < 16 ⌝ }
+    ensures { λ r. ⌜ r ≡ choose put (insertOf m y) m ⌝ }
+{
+    if put { sets::insert(m, y) } else { m }
+}
+
+// The sets, with y in the one at `at`; at 16 there is none. Each is written, since a store at an index that is known late makes the next read wait.
+fn words_with(words: [u16; 16], at: u16, y: usize) -> [u16; 16]
+    requires { ⌜ y < 16 ⌝ }
+    ensures { λ r. ⌜ r ≡ wordsWith words at y ⌝ }
+{
+    [
+        word_with(words[0], at == 0, y),
+        word_with(words[1], at == 1, y),
+        word_with(words[2], at == 2, y),
+        word_with(words[3], at == 3, y),
+        word_with(words[4], at == 4, y),
+        word_with(words[5], at == 5, y),
+        word_with(words[6], at == 6, y),
+        word_with(words[7], at == 7, y),
+        word_with(words[8], at == 8, y),
+        word_with(words[9], at == 9, y),
+        word_with(words[10], at == 10, y),
+        word_with(words[11], at == 11, y),
+        word_with(words[12], at == 12, y),
+        word_with(words[13], at == 13, y),
+        word_with(words[14], at == 14, y),
+        word_with(words[15], at == 15, y),
+    ]
 }
 
 // The steps. `n` is how many processes there are, `a` the number of this one, from 0; `rows` has what each process sent in this round.
@@ -95,11 +130,10 @@ impl Process {
         requires { ⌜ (1 ≤ r) × (r ≤ 16) ⌝ }
         ensures { λ p. ⌜ p ≡ receiveOf y r self ⌝ }
     {
-        if self.keeps(y, r) {
-            let k = r - 1;
-            let m = sets::insert(self.received[k], y);
-            self.received[k] = m;
-        }
+        let at = if self.keeps(y, r) { (r - 1) as u16 } else { 16 };
+        let words = self.received;
+        let received = words_with(words, at, y);
+        self.received = received;
         self
     }
 

@@ -34,8 +34,8 @@ use Rattle.bench.specs.RecordLaws.{messageIn, inRange, decode-size, decode-refu
 use Rattle.bench.specs.Refuse.{numberOf, actor, possible, ready, allowed, refuses, refusal}
 use Rattle.bench.specs.RefuseLaws.{check-zero, refusal-unread, refusal-event, accepted-effect}
 use Rattle.bench.specs.Effect.{opensRound, rowsAt, arrives, closesAs, effect, effectDecoded, effectOf}
-use Rattle.bench.specs.Calls.{refused, endedOf, runFrom}
-use Rattle.bench.specs.RunLaws.{run-empty, run-spent, run-refused, run-accepted}
+use Rattle.bench.specs.Calls.{refused, endedOf, runFrom, runOf}
+use Rattle.bench.specs.RunLaws.{run-empty, run-spent, run-refused, run-accepted, run-sound}
 use Rattle.schedule.specs.Checks.{firstOf, startCheck, messageCheck, closeCheck, crashCheck, suspectCheck, arrivedAs, takes-started}
 
 -- ---- the loop's head: of the schedule l, `at` bytes are taken in `accepted` records, from b to s
@@ -43,7 +43,7 @@ pub record Running (budget : ℕ) (l : List ℕ) (b s : Bench) (at accepted : �
   pub sound : soundOf s ≡ true
   pub within-bytes : at ≤ length l
   pub within-budget : accepted ≤ budget
-  pub gives : runFrom (budget - accepted) (drop at l) s accepted at ≡ runFrom budget l b 0 0
+  pub gives : runFrom (budget - accepted) (drop at l) s accepted at ≡ runOf budget l b
 
 pub running-new : (budget : ℕ) (l : List ℕ) (b : Bench) → soundOf b ≡ true → Running budget l b b 0 0
 running-new budget l b e =
@@ -51,7 +51,7 @@ running-new budget l b e =
       sound = e;
       within-bytes = omega arith;
       within-budget = omega arith;
-      gives = let z : budget - 0 ≡ budget = omega arith in rw z;
+      gives = let z : budget - 0 ≡ budget = omega arith in rw (run-sound budget l b e, z);
     }
 
 -- a turn in which the event e was decoded
@@ -65,25 +65,25 @@ module _ (budget : ℕ) (l : List ℕ) (b s : Bench) (at accepted : ℕ) where
   some-left : at < length l → length (drop at l) ≢ 0
   some-left h e = omega (arith, length-drop at l)
 
-  pub ends-empty : Running budget l b s at accepted → length l ≤ at → endedOf s accepted Empty at ≡ runFrom budget l b 0 0
+  pub ends-empty : Running budget l b s at accepted → length l ≤ at → endedOf s accepted Empty at ≡ runOf budget l b
   ends-empty w h =
       sym (run-empty (drop at l) s accepted at (budget - accepted) (omega (arith, length-drop at l))) ∙ w .gives
 
   pub ends-spent : Running budget l b s at accepted → at < length l → accepted ≡ budget
-      → endedOf s accepted Spent at ≡ runFrom budget l b 0 0
+      → endedOf s accepted Spent at ≡ runOf budget l b
   ends-spent w h e =
       sym (run-spent (drop at l) s accepted at (budget - accepted) (some-left h) (omega arith)) ∙ w .gives
 
   -- refused, by the number of the next record
   ends-refused : Running budget l b s at accepted → at < length l → accepted ≢ budget → (k : ℕ) → refusal s (take 8 (drop at l)) ≡ k
-      → k ≢ 0 → endedOf s accepted (RefusedRun (refused k)) at ≡ runFrom budget l b 0 0
+      → k ≢ 0 → endedOf s accepted (RefusedRun (refused k)) at ≡ runOf budget l b
   ends-refused w h f k e z =
       sym (run-refused (drop at l) s accepted at (budget - accepted) (some-left h) (λ u. f (omega (arith, w .within-budget))) (rw e z)
       ∙ ap (λ k. endedOf s accepted (RefusedRun (refused k)) at) e) ∙ w .gives
 
   -- fewer than 8 bytes are left
   pub ends-short : Running budget l b s at accepted → at < length l → accepted ≢ budget → length l - at < 8
-      → endedOf s accepted (RefusedRun (refused 3)) at ≡ runFrom budget l b 0 0
+      → endedOf s accepted (RefusedRun (refused 3)) at ≡ runOf budget l b
   ends-short w h f g =
       let r : Refusal = record { number = 3 } in
       ends-refused w h f 3
@@ -95,7 +95,7 @@ module _ (budget : ℕ) (l : List ℕ) (b s : Bench) (at accepted : ℕ) where
   next : (d : Decoded) → Turn budget l b s at accepted d → decodeOf (s .n) (s .t) (take 8 (drop at l)) ≡ d
   next d w = let e : at + 8 - at ≡ 8 = omega arith in rw e at (w .decoded)
 
-  pub ends-unread : (r : Refusal) → Turn budget l b s at accepted (Refused r) → endedOf s accepted (RefusedRun r) at ≡ runFrom budget l b 0 0
+  pub ends-unread : (r : Refusal) → Turn budget l b s at accepted (Refused r) → endedOf s accepted (RefusedRun r) at ≡ runOf budget l b
   ends-unread r w =
       ends-refused (w .running) (omega (arith, w .whole)) (w .left) (r .number)
       (refusal-unread s (take 8 (drop at l)) (w .running .sound) r (next (Refused r) w))
@@ -103,7 +103,7 @@ module _ (budget : ℕ) (l : List ℕ) (b s : Bench) (at accepted : ℕ) where
 
   -- k is what the code's check of the event e gives
   pub ends-by : (e : Event) → Turn budget l b s at accepted (Got e) → (k : ℕ) → k ≡ refuses e s → k ≢ 0
-      → endedOf s accepted (RefusedRun (refused k)) at ≡ runFrom budget l b 0 0
+      → endedOf s accepted (RefusedRun (refused k)) at ≡ runOf budget l b
   ends-by e w k p z =
       ends-refused (w .running) (omega (arith, w .whole)) (w .left) k
       (refusal-event s (take 8 (drop at l)) (w .running .sound) e (next (Got e) w) ∙ sym p) z

@@ -12,7 +12,8 @@ use bench::Event;
 use bench::Message;
 use bench::Refusal;
 use bench::decode;
-use bench::sound::is_sound;
+use bench::sound::parts_sound;
+use bench::sound::set_within;
 use global_data::GlobalData;
 use process::Process;
 ghost use mathlib.Core.Path.{_≡_};
@@ -48,19 +49,6 @@ fn number(m: Message) -> usize
     }
 }
 
-// Process b of n, once a message of a has arrived; g is what a decided on.
-fn arrived(p: Process, n: usize, b: usize, a: usize, m: Message, g: GlobalData) -> Process
-    requires { ⌜ n ≤ 16 ⌝ }
-    requires { ⌜ (a < 16) × (b < 16) ⌝ }
-    requires { ⌜ messageIn 15 m ⌝ }
-    ensures { λ r. ⌜ r ≡ arrivedAs n b a m g p ⌝ }
-{
-    match m {
-        Message::Estimate { round } => p.receive(a, round),
-        Message::Decision => p.adopt(n, b, a, g),
-    }
-}
-
 // The index of a round, from 0.
 fn round_index(round: u8) -> usize
     requires { ⌜ (1 ≤ round) × (round ≤ 16) ⌝ }
@@ -69,12 +57,27 @@ fn round_index(round: u8) -> usize
     (round - 1) as usize
 }
 
-// The core: a sound bench and its records, one by one. The state is one local, and each event changes its parts in place.
-fn steps(bench: Bench, schedule: &[u8], budget: u32) -> Ended
-    requires { ⌜ soundOf bench ≡ true ⌝ }
-    ensures { λ r. ⌜ r ≡ runFrom budget (now (schedule .entry)) bench 0 0 ⌝ }
+// Any bench: a damaged one is refused, with nothing taken. The state is one local: it is tested and changed where it lies, since a
+// function that took it would copy it.
+pub fn run_bytes(bench: Bench, schedule: &[u8], budget: u32) -> Ended
+    ensures { λ r. ⌜ r ≡ runOf budget (now (schedule .entry)) bench ⌝ }
 {
     let mut s = bench;
+    let processes = s.processes;
+    let words = s.in_transit;
+    if !parts_sound(s.n, s.t, s.crashed, processes, words) {
+        return turned_away(s, 0, 2, 0);
+    }
+    let mut rows = true;
+    let mut k: usize = 0;
+    while k < 256 {
+        let g = s.sent[k];
+        rows = rows & set_within(s.n, g.present);
+        k += 1;
+    }
+    if !rows {
+        return turned_away(s, 0, 2, 0);
+    }
     let mut at: usize = 0;
     let mut accepted: u32 = 0;
     while at < schedule.len() {
@@ -141,12 +144,20 @@ fn steps(bench: Bench, schedule: &[u8], budget: u32) -> Ended
                     if k != 0 {
                         return turned_away(s, before, k, from);
                     }
-                    let sender = s.processes[a];
-                    let g = sender.estimate;
-                    let p = s.processes[b];
-                    s.processes[b] = arrived(p, n, b, a, m, g);
                     s.in_transit[i] = sets::remove(word, b);
-                    continue;
+                    let p = s.processes[b];
+                    match m {
+                        Message::Estimate { round } => {
+                            s.processes[b] = p.receive(a, round);
+                            continue;
+                        }
+                        Message::Decision => {
+                            let sender = s.processes[a];
+                            let g = sender.estimate;
+                            s.processes[b] = p.adopt(n, b, a, g);
+                            continue;
+                        }
+                    }
                 }
                 Event::Close { process: a } => {
                     let p = s.processes[a];
@@ -211,17 +222,6 @@ fn steps(bench: Bench, schedule: &[u8], budget: u32) -> Ended
         accepted,
         cause: Cause::Empty,
         taken: at,
-    }
-}
-
-// Any bench: a damaged one is refused, with nothing taken.
-pub fn run_bytes(b: Bench, schedule: &[u8], budget: u32) -> Ended
-    ensures { λ r. ⌜ r ≡ runOf budget (now (schedule .entry)) b ⌝ }
-{
-    if is_sound(b) {
-        steps(b, schedule, budget)
-    } else {
-        turned_away(b, 0, 2, 0)
     }
 }
 

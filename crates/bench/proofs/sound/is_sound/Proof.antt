@@ -1,62 +1,27 @@
--- `is_sound` makes the definition's tests, those of the sets only where n is known to be at most 16.
-use mathlib.Core.Path.{_≡_, sym, _∙_}
-use mathlib.Core.Bool.{Bool, true, false}
-use Prim.Native.Nat.{_≤_}
-use native.Mathlib.Omega.{arith}
+-- Soundness in its two parts: all but the rows, then the rows.
+use mathlib.Core.Path.{sym, _∙_}
 use borrow.Author.Needs.{needs}
-use Rattle.sets.specs.Truth.{not-on, not-off, and-l, and-r, and-on-l, and-off-l, below-on}
-use Rattle.bench.specs.Sound.{opens, soundOf}
-use Rattle.bench.proofs.Tests.{both}
+use Rattle.sets.specs.Truth.{not-on, not-off}
+use Rattle.bench.specs.SoundLaws.{parts-small, sound-off, sound-rows}
 use Rattle.bench.proofs.sound.is_sound.Statement.{statement}
 use Rattle.bench.proofs.sound.is_sound.Tie as tie
 
-sizes-open-requires : tie.Need-sizes-open-requires
-sizes-open-requires c κs = search needs
+parts-sound-requires : tie.Need-parts-sound-requires
+parts-sound-requires c κs = search needs
 
 returns : tie.Need-returns
-unfolding soundOf
-returns c = sym (and-off-l _ _ (sym (c .before .sizes-open .ensures) ∙ not-on (c .before .sizes-open .result) (c .if1 .taken)))
-
--- the sizes are those that open
-sizes : (c : tie.Else1) → opens (c .before .before .args .b .n) (c .before .before .args .b .t) ≡ true
-sizes c = sym (c .before .sizes-open .ensures) ∙ not-off (c .before .sizes-open .result) (c .if1 .left)
-
-top : (c : tie.Else1) → c .before .before .args .b .n ≤ 16
-unfolding opens
-top c = omega (arith, below-on (c .before .before .args .b .n) 17 (and-l _ _ (and-r _ _ (sizes c))))
-
-set-within-requires : tie.Need-set-within-requires
-set-within-requires c κs = top (c .before .before .before)
-
-processes-sound-requires : tie.Need-processes-sound-requires
-processes-sound-requires c κs = top (c .before .before .before .before)
+returns c =
+    sym (sound-off _ (sym (c .before .parts-sound .ensures) ∙ not-on (c .before .parts-sound .result) (c .if1 .taken)))
 
 rows-within-requires : tie.Need-rows-within-requires
-rows-within-requires c κs = top (c .before .before .before .before .before)
-
-slice-aggregate-sets-within : tie.Need-slice-aggregate-sets-within
-slice-aggregate-sets-within c = search needs
-
-sets-within-requires : tie.Need-sets-within-requires
-sets-within-requires c κs = top (c .before .before .before .before .before .before .before)
+rows-within-requires c κs =
+    let p = c .before .before .parts-sound in
+    parts-small _ _ _ _ _ (sym (p .ensures) ∙ not-off (p .result) (c .before .if1 .left))
 
 returns-2 : tie.Need-returns-2
-unfolding soundOf
 returns-2 c =
-    let c₁ = c .before .before in
-    both (c₁ .before .before .set-within .ensures)
-    (both (c₁ .before .processes-sound .ensures) (both (c₁ .rows-within .ensures) (c .sets-within .ensures)))
-    ∙ sym (and-on-l _ _ (sizes (c₁ .before .before .before .before .before .before)))
+    let p = c .before .before .before .parts-sound in
+    c .rows-within .ensures ∙ sym (sound-rows _ (sym (p .ensures) ∙ not-off (p .result) (c .before .before .if1 .left)))
 
 pub is-sound-spec : {M : Type 1} → statement M
-is-sound-spec =
-    tie.close
-    (tie.spec
-    sizes-open-requires
-    returns
-    set-within-requires
-    processes-sound-requires
-    rows-within-requires
-    slice-aggregate-sets-within
-    sets-within-requires
-    returns-2)
+is-sound-spec = tie.close (tie.spec parts-sound-requires returns rows-within-requires returns-2)

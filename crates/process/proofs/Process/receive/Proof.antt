@@ -1,52 +1,35 @@
--- `Process::receive` is the step: where `keeps` holds one word of `received` changes, by `insert`, and else nothing.
-use mathlib.Core.Path.{sym, _∙_}
+-- `Process::receive` is the step: every set is written anew, and the one that changes is past the last where `keeps` does not hold.
+use mathlib.Core.Path.{_≡_, _∙_}
+use mathlib.Core.Logic.{⊎-elim}
+use Prim.Native.Nat.{_-_}
 use borrow.Author.Needs.{needs}
 use Rattle.sets.specs.Truth.{choose}
-use Rattle.process.specs.Steps.{receiveOf}
+use Rattle.process.specs.Steps.{keeps}
+use Rattle.process.specs.Laws.{receive-words}
 use Rattle.process.proofs.Process.receive.Statement.{statement}
 use Rattle.process.proofs.Process.receive.Tie as tie
 
 keeps-requires : tie.Need-keeps-requires
 keeps-requires c κs = search needs
 
-sub-k : tie.Need-sub-k
-sub-k c = search needs
+sub-at : tie.Need-sub-at
+sub-at c = search needs
 
-mul-insert : tie.Need-mul-insert
-mul-insert c = search needs
+cast-at : tie.Need-cast-at
+cast-at c = search needs
 
-element-copy-out-insert : tie.Need-element-copy-out-insert
-element-copy-out-insert c = search needs
-
-insert-requires : tie.Need-insert-requires
-insert-requires c κs = search needs
-
-mul-self : tie.Need-mul-self
-mul-self c = search needs
-
-element-write-self : tie.Need-element-write-self
-element-write-self c = search needs
+words-with-requires : tie.Need-words-with-requires
+words-with-requires c κs = search needs
 
 returns : tie.Need-returns
-unfolding receiveOf choose
+unfolding choose
 returns c =
-    let b = c .before .before in
-    rw (sym (b .before .keeps .ensures) ∙ b .if1 .taken, c .insert .ensures)
-
-returns-2 : tie.Need-returns-2
-unfolding receiveOf choose
-returns-2 c = rw (sym (c .before .keeps .ensures) ∙ c .if1 .left)
+    let a = c .before .before .before .before .args in
+    let v = c .before .before .before .keeps .ensures in
+    let at : c .before .before .if1 .at ≡ choose (keeps (a .self) (a .y) (a .r)) (a .r - 1) 16 =
+    ⊎-elim (λ w. rw (← v, w .0 .taken) (w .1)) (λ w. rw (← v, w .0 .left) (w .1)) (c .before .before .if1 .came) in
+    rw (c .words-with .ensures)
+    (receive-words (a .y) (a .r) (c .before .before .if1 .at) (a .self) (search needs) (search needs) (search needs) at)
 
 pub receive-spec : {M : Type 1} → statement M
-receive-spec =
-    tie.close
-    (tie.spec
-    keeps-requires
-    sub-k
-    mul-insert
-    element-copy-out-insert
-    insert-requires
-    mul-self
-    element-write-self
-    returns
-    returns-2)
+receive-spec = tie.close (tie.spec keeps-requires sub-at cast-at words-with-requires returns)

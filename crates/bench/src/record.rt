@@ -4,8 +4,10 @@ use crate::Event;
 use crate::Message;
 use crate::Refusal;
 ghost use mathlib.Core.Path.{_≡_};
+ghost use mathlib.Core.Bool.{true};
 ghost use Prim.Native.Nat.{_-_};
 ghost use Rattle.bench.specs.Record.{wordOf, isProcess, usesB, fieldB, fieldR, fieldValue, fields, messageFrom, eventOf, partsOf, decodeOf};
+ghost use Rattle.bench.specs.RecordLaws.{isKind};
 
 fn word(a: u8, b: u8, c: u8, d: u8) -> u32
     ensures { λ r. ⌜ r ≡ wordOf a b c d ⌝ }
@@ -98,19 +100,30 @@ fn event(kind: u8, a: usize, b: usize, r: u8, v: u32) -> Event
     }
 }
 
-fn parts(n: u8, t: u8, kind: u8, a: u8, b: u8, r: u8, v: u32) -> Decoded
+// A record of a kind 1 to 6.
+fn known(n: u8, t: u8, kind: u8, a: u8, b: u8, r: u8, v: u32) -> Decoded
+    requires { ⌜ isKind kind ≡ true ⌝ }
     ensures { λ res. ⌜ res ≡ partsOf n t kind a b r v ⌝ }
 {
-    if kind == 0 {
-        return Decoded::Refused(Refusal { number: 4 });
-    }
-    if 6 < kind {
-        return Decoded::Refused(Refusal { number: 4 });
-    }
     if fields_ok(n, t, kind, a, b, r, v) {
         Decoded::Got(event(kind, from_zero(a), from_zero(b), r, v))
     } else {
         Decoded::Refused(Refusal { number: 5 })
+    }
+}
+
+// By kind first, so that the compiler makes of each kind its own few tests.
+fn parts(n: u8, t: u8, kind: u8, a: u8, b: u8, r: u8, v: u32) -> Decoded
+    ensures { λ res. ⌜ res ≡ partsOf n t kind a b r v ⌝ }
+{
+    match kind {
+        1 => known(n, t, 1, a, b, r, v),
+        2 => known(n, t, 2, a, b, r, v),
+        3 => known(n, t, 3, a, b, r, v),
+        4 => known(n, t, 4, a, b, r, v),
+        5 => known(n, t, 5, a, b, r, v),
+        6 => known(n, t, 6, a, b, r, v),
+        _ => Decoded::Refused(Refusal { number: 4 }),
     }
 }
 

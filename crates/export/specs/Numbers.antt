@@ -14,12 +14,14 @@ use Rattle.bench.specs.declared.Listed.the-variants.{Count, Refused as RefusedL
 use Rattle.bench.specs.declared.Counters.{Counters}
 use Rattle.bench.specs.declared.Opened.{Opened}
 use Rattle.bench.specs.declared.Ended.{Ended}
-use Rattle.bench.specs.Calls.{openOf, stepOf, tallyOf, runOf}
+use Rattle.bench.specs.Calls.{openOf}
+use Rattle.schedule.specs.StepLaws.{answerTo, isAccepted, crashByte, tallied}
 use Rattle.aggregates.specs.Answers as sums
 use Rattle.export.specs.declared.HostOpened.{HostOpened}
 use Rattle.export.specs.declared.HostStepped.{HostStepped}
 use Rattle.export.specs.declared.Progress.{Progress}
 use Rattle.export.specs.declared.HostRan.{HostRan}
+use Rattle.export.specs.declared.Reached.{Reached}
 
 -- ---- answers as numbers
 unfoldable pub answerNumber : Answer → ℕ
@@ -53,16 +55,21 @@ openedIn s o = kept (o .answer)
 unfoldable pub hostOpenedOf : Bench → ℕ → ℕ → HostOpened
 hostOpenedOf s n t = record { bench = openedIn s (openOf n t); number = answerNumber (openOf n t .answer) }
 
-unfoldable pub hostSteppedOf : Bench → List ℕ → Counters → HostStepped
-hostSteppedOf s l c = record { bench = stepOf s l .bench; counters = tallyOf s l c; number = answerNumber (stepOf s l .answer) }
+-- ---- a run of a lent bench: its end, and what the two calls make of it
+unfoldable pub reachedOf : Ended → Reached
+reachedOf e = record { accepted = e .accepted; cause = e .cause; taken = e .taken }
 
 unfoldable pub progressOf : Ended → Progress
 progressOf e = record { accepted = e .accepted; taken = e .taken }
 
-unfoldable pub hostRanOf : ℕ → List ℕ → Bench → HostRan
-hostRanOf budget l s =
-    let e = runOf budget l s in
-    record { bench = e .bench; progress = progressOf e; number = causeNumber (e .cause) }
+unfoldable pub hostRanOf : Reached → HostRan
+hostRanOf r = record { progress = record { accepted = r .accepted; taken = r .taken }; number = causeNumber (r .cause) }
+
+-- a run of the record in l, if there is one
+unfoldable pub hostSteppedOf : Reached → List ℕ → Counters → HostStepped
+hostSteppedOf r l c =
+    let a = answerTo (r .accepted) (r .cause) in
+    record { counters = tallied (isAccepted a) (crashByte l) c; number = answerNumber a }
 
 -- ---- aggregates: the number, and a lent word after the call
 unfoldable pub refusalIn : {A : Type 0} → sums.Answer A → ℕ

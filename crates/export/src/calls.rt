@@ -1,15 +1,19 @@
 // The bench, lent by the host: each call reads it, has the work done by value, and stores what comes of it.
 use crate::Progress;
+use crate::Reached;
+use crate::numbers::host_ran;
+use crate::numbers::host_stepped;
 use crate::numbers::list_by;
 use crate::numbers::open_by;
-use crate::numbers::run_by;
+use crate::numbers::reached;
 use crate::numbers::show_by;
-use crate::numbers::step_by;
 use bench::Bench;
 use bench::Counters;
+use schedule::run::run_bytes;
+use schedule::step::record_in;
 ghost use mathlib.Core.Path.{_≡_};
 ghost use Rattle.bench.specs.Calls.{openOf, stepOf, tallyOf, runOf, showOf, shownIn, listOf, listedIn};
-ghost use Rattle.export.specs.Numbers.{answerNumber, causeNumber, shownNumber, listedNumber, openedIn, progressOf};
+ghost use Rattle.export.specs.Numbers.{answerNumber, causeNumber, shownNumber, listedNumber, openedIn, progressOf, reachedOf};
 
 // Opens a bench of n processes of which t may crash. Refused, b stays.
 #[no_mangle]
@@ -21,6 +25,16 @@ pub extern "C" fn bench_open(b: &mut Bench, n: u8, t: u8) -> u32
     r.number
 }
 
+// A run of a lent bench. The one place that calls run, so that the compiler joins the two and drops most copies of the state.
+fn run_in(b: &mut Bench, schedule: &[u8], budget: u32) -> Reached
+    ensures { λ r. ⌜ (r ≡ reachedOf (runOf budget (now (schedule .entry)) (now (b .entry))))
+        × (now (b .exit) ≡ runOf budget (now (schedule .entry)) (now (b .entry)) .bench) ⌝ }
+{
+    let e = run_bytes(*b, schedule, budget);
+    *b = e.bench;
+    reached(e)
+}
+
 // One record, with the host's tally.
 #[no_mangle]
 pub extern "C" fn bench_step(b: &mut Bench, rec: &[u8], tally: &mut Counters) -> u32
@@ -28,10 +42,10 @@ pub extern "C" fn bench_step(b: &mut Bench, rec: &[u8], tally: &mut Counters) ->
         × (now (b .exit) ≡ stepOf (now (b .entry)) (now (rec .entry)) .bench)
         × (now (tally .exit) ≡ tallyOf (now (b .entry)) (now (rec .entry)) (now (tally .entry))) ⌝ }
 {
-    let r = step_by(*b, rec, *tally);
-    *b = r.bench;
-    *tally = r.counters;
-    r.number
+    let r = run_in(b, record_in(rec), 1);
+    let h = host_stepped(r, rec, *tally);
+    *tally = h.counters;
+    h.number
 }
 
 // A run; it gives why it ended: 0 the schedule is empty, 1 the budget is spent, else 16 more than the number of the refusal.
@@ -46,10 +60,10 @@ pub extern "C" fn bench_run(
         × (now (b .exit) ≡ runOf budget (now (schedule .entry)) (now (b .entry)) .bench)
         × (now (progress .exit) ≡ progressOf (runOf budget (now (schedule .entry)) (now (b .entry)))) ⌝ }
 {
-    let r = run_by(*b, schedule, budget);
-    *b = r.bench;
-    *progress = r.progress;
-    r.number
+    let r = run_in(b, schedule, budget);
+    let h = host_ran(r);
+    *progress = h.progress;
+    h.number
 }
 
 // The global data that a process has decided on. It gives the present marks, or the number of the refusal in the high 32 bits.

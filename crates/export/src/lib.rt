@@ -5,6 +5,7 @@ mod calls;
 mod numbers;
 
 use bench::Bench;
+use bench::Cause;
 use bench::Counters;
 
 // What opening gives a host.
@@ -13,9 +14,8 @@ pub struct HostOpened {
     pub number: u32,
 }
 
-// What the call for one record gives a host.
+// What the call for one record gives a host, beside the bench.
 pub struct HostStepped {
-    pub bench: Bench,
     pub counters: Counters,
     pub number: u32,
 }
@@ -27,9 +27,15 @@ pub struct Progress {
     pub taken: usize,
 }
 
-// What a run gives a host.
+// How a run of a lent bench ended.
+pub struct Reached {
+    pub accepted: u32,
+    pub cause: Cause,
+    pub taken: usize,
+}
+
+// What a run gives a host, beside the bench.
 pub struct HostRan {
-    pub bench: Bench,
     pub progress: Progress,
     pub number: u32,
 }

@@ -3,15 +3,19 @@ use crate::HostOpened;
 use crate::HostRan;
 use crate::HostStepped;
 use crate::Progress;
+use crate::Reached;
 use bench::Answer;
 use bench::Bench;
 use bench::Cause;
 use bench::Counters;
+use bench::Ended;
 use bench::Listed;
 use bench::Shown;
+use schedule::step::answer_to;
+use schedule::step::tally_after;
 ghost use mathlib.Core.Path.{_≡_};
 ghost use Rattle.bench.specs.Calls.{showOf, shownIn, listOf, listedIn};
-ghost use Rattle.export.specs.Numbers.{answerNumber, causeNumber, shownNumber, listedNumber, hostOpenedOf, hostSteppedOf, hostRanOf};
+ghost use Rattle.export.specs.Numbers.{answerNumber, causeNumber, shownNumber, listedNumber, hostOpenedOf, reachedOf, hostRanOf, hostSteppedOf};
 
 fn answer_number(a: Answer) -> u32
     ensures { λ r. ⌜ r ≡ answerNumber a ⌝ }
@@ -68,34 +72,40 @@ pub fn open_by(b: Bench, n: u8, t: u8) -> HostOpened
     }
 }
 
-pub fn step_by(b: Bench, rec: &[u8], c: Counters) -> HostStepped
-    ensures { λ r. ⌜ r ≡ hostSteppedOf b (now (rec .entry)) c ⌝ }
+// The end of a run, without the bench.
+pub fn reached(e: Ended) -> Reached
+    ensures { λ r. ⌜ r ≡ reachedOf e ⌝ }
 {
-    let r = schedule::step::step_counted(b, rec, c);
-    let stepped = r.stepped;
-    let answer = stepped.answer;
-    let bench = stepped.bench;
-    let counters = r.counters;
-    HostStepped {
-        bench,
-        counters,
-        number: answer_number(answer),
+    let cause = e.cause;
+    Reached {
+        accepted: e.accepted,
+        cause,
+        taken: e.taken,
     }
 }
 
-pub fn run_by(b: Bench, schedule: &[u8], budget: u32) -> HostRan
-    ensures { λ r. ⌜ r ≡ hostRanOf budget (now (schedule .entry)) b ⌝ }
+pub fn host_ran(end: Reached) -> HostRan
+    ensures { λ r. ⌜ r ≡ hostRanOf end ⌝ }
 {
-    let e = schedule::run::run_bytes(b, schedule, budget);
-    let bench = e.bench;
-    let cause = e.cause;
+    let cause = end.cause;
     HostRan {
-        bench,
         progress: Progress {
-            accepted: e.accepted,
-            taken: e.taken,
+            accepted: end.accepted,
+            taken: end.taken,
         },
         number: cause_number(cause),
+    }
+}
+
+// By the end of a run of the record in `rec`, and the tally before it.
+pub fn host_stepped(end: Reached, rec: &[u8], c: Counters) -> HostStepped
+    ensures { λ r. ⌜ r ≡ hostSteppedOf end (now (rec .entry)) c ⌝ }
+{
+    let cause = end.cause;
+    let answer = answer_to(end.accepted, cause);
+    HostStepped {
+        counters: tally_after(c, answer, rec),
+        number: answer_number(answer),
     }
 }
 

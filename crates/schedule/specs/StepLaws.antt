@@ -1,7 +1,7 @@
--- The call for one record is a run of it alone, with a budget of one; and the tally by what the answer says and the record's kind.
+-- The call for one record is a run of it alone, or of nothing, with a budget of one; and the tally by what the answer says and the record's kind.
 -- An accepted record has the kind of its event, so an accepted one is a crash when its first byte is 5.
 use mathlib.Core.Path.{_≡_, refl, sym, ap, _∙_}
-use mathlib.Core.Logic.{_≢_, ⊎-elim}
+use mathlib.Core.Logic.{_≢_, _⊎_, inl, inr, ⊎-elim}
 use mathlib.Core.List.{List, [], _∷_}
 use mathlib.Core.Bool.{Bool, true, false, not}
 use Prim.Native.Nat.{ℕ, zero, suc, _-_, _≤_, _<_}
@@ -30,14 +30,18 @@ use Rattle.bench.specs.Calls.{refused, answerOf, after, stepOf, more, isCrash, 
 use Rattle.bench.specs.RunLaws.{run-empty, run-refused, run-accepted, run-damaged, run-sound}
 
 -- ---- one record
--- the answer to a record by the cause at which a run of it ended
-unfoldable pub answerTo : Cause → Answer
-answerTo Empty = Accepted
-answerTo Spent = Accepted
-answerTo (RefusedRun r) = Refused r
+-- its 8 bytes; of any other length there is none
+unfoldable pub recordIn : List ℕ → List ℕ
+recordIn l = choose (same (length l) 8) l []
+
+-- the answer by the end of a run of it: nothing accepted at the end of the schedule, and there was none
+unfoldable pub answerTo : ℕ → Cause → Answer
+answerTo accepted Empty = choose (same accepted 0) (Refused (refused 3)) Accepted
+answerTo accepted Spent = Accepted
+answerTo accepted (RefusedRun r) = Refused r
 
 unfoldable pub steppedBy : Ended → Stepped
-steppedBy e = record { answer = answerTo (e .cause); bench = e .bench }
+steppedBy e = record { answer = answerTo (e .accepted) (e .cause); bench = e .bench }
 
 module _ (s : Bench) (l : List ℕ) where
   -- a refused record, by its number
@@ -61,6 +65,11 @@ module _ (s : Bench) (l : List ℕ) where
       let o = same-mk 0 0 refl in
       rw (e, choose-on (same 0 0) Accepted (Refused (refused 0)) o, choose-on (same 0 0) (effectOf s l) s o)
 
+  -- a damaged bench is refused whatever is run
+  damaged : (bytes : List ℕ) → soundOf s ≡ false → steppedBy (runOf 1 bytes s) ≡ stepOf s l
+  unfolding steppedBy answerTo endedOf
+  damaged bytes d = rw (run-damaged 1 bytes s d) (step-damaged d)
+
   -- 8 bytes
   module _ (n : length l ≡ 8) where
     whole : take 8 l ≡ l
@@ -76,18 +85,24 @@ module _ (s : Bench) (l : List ℕ) where
         taken : refusal s (take 8 l) ≡ 0 → steppedBy (runFrom 1 l s 0 0) ≡ stepOf s l
         taken z =
             rw (run-accepted l s 0 0 1 some (omega arith) z, run-empty (drop 8 l) (effectOf s (take 8 l)) 1 8 0 (omega (arith, length-drop 8 l)), whole)
-            (step-accepted (rw whole at z))
+            (rw (choose-off (same 1 0) (Refused (refused 3)) Accepted (same-off 1 0 (omega arith))) (step-accepted (rw whole at z)))
 
         turned : refusal s (take 8 l) ≢ 0 → steppedBy (runFrom 1 l s 0 0) ≡ stepOf s l
         turned z = rw (run-refused l s 0 0 1 some (omega arith) z, whole) (step-refused (refusal s l) refl (rw whole at z))
 
-    pub step-run : steppedBy (runOf 1 l s) ≡ stepOf s l
-    unfolding steppedBy answerTo endedOf
-    step-run = go (is (soundOf s))
-      where
-        go : Is (soundOf s) → steppedBy (runOf 1 l s) ≡ stepOf s l
-        go (on h) = rw (run-sound 1 l s h) (one h)
-        go (off d) = rw (run-damaged 1 l s d) (step-damaged d)
+  -- any other number of bytes
+  none : length l ≢ 8 → soundOf s ≡ true → steppedBy (runFrom 1 [] s 0 0) ≡ stepOf s l
+  unfolding steppedBy answerTo endedOf
+  none n h = rw (run-empty [] s 0 0 1 refl, choose-on (same 0 0) (Refused (refused 3)) Accepted (same-mk 0 0 refl)) (step-size h n)
+
+  pub step-run : steppedBy (runOf 1 (recordIn l) s) ≡ stepOf s l
+  unfolding recordIn
+  step-run = go (is (soundOf s)) (eq-or (length l) 8)
+    where
+      go : Is (soundOf s) → (length l ≡ 8) ⊎ (length l ≢ 8) → steppedBy (runOf 1 (choose (same (length l) 8) l []) s) ≡ stepOf s l
+      go (off d) k = damaged _ d
+      go (on h) (inl n) = rw (choose-on (same (length l) 8) l [] (same-mk _ _ n), run-sound 1 l s h) (one n h)
+      go (on h) (inr n) = rw (choose-off (same (length l) 8) l [] (same-off _ _ n), run-sound 1 [] s h) (none n h)
 
 -- ---- the tally
 unfoldable pub isAccepted : Answer → Bool

@@ -7,52 +7,45 @@ use bench::Cause;
 use bench::Counters;
 use bench::Refusal;
 use bench::Stepped;
-use bench::sound::is_sound;
 ghost use mathlib.Core.Path.{_≡_};
-ghost use Rattle.bench.specs.declared.Answer.the-variants.{Refused};
-ghost use Rattle.bench.specs.Calls.{refused, more, stepOf, tallyOf};
-ghost use Rattle.schedule.specs.StepLaws.{answerTo, isAccepted, crashByte, tallied, countedOf};
+ghost use Rattle.bench.specs.Calls.{more, stepOf};
+ghost use Rattle.schedule.specs.StepLaws.{answerTo, recordIn, isAccepted, crashByte, tallied, countedOf};
 
-fn turned_away(number: u8) -> Answer
-    ensures { λ r. ⌜ r ≡ Refused (refused number) ⌝ }
+// The record in `rec`: its 8 bytes; of any other length there is none.
+pub fn record_in(rec: &[u8]) -> &[u8]
+    ensures { λ r. ⌜ now r ≡ recordIn (now (rec .entry)) ⌝ }
 {
-    Answer::Refused(Refusal { number })
+    let n = rec.len();
+    if n == 8 { rec } else { &rec[n..] }
 }
 
-// The answer to a record by the cause at which a run of it ended.
-fn answer_to(c: Cause) -> Answer
-    ensures { λ r. ⌜ r ≡ answerTo c ⌝ }
+// The answer by the end of a run of the record, with a budget of one: no record was taken where there was none.
+pub fn answer_to(accepted: u32, cause: Cause) -> Answer
+    ensures { λ r. ⌜ r ≡ answerTo accepted cause ⌝ }
 {
-    match c {
-        Cause::Empty => Answer::Accepted,
+    match cause {
+        Cause::Empty => {
+            if accepted == 0 {
+                Answer::Refused(Refusal { number: 3 })
+            } else {
+                Answer::Accepted
+            }
+        }
         Cause::Spent => Answer::Accepted,
         Cause::Refused(r) => Answer::Refused(r),
     }
 }
 
-// Any bench and any bytes. A record is a run of it alone, with a budget of one.
+// Any bench and any bytes: a run of the record in them, with a budget of one.
 pub fn step_bytes(b: Bench, rec: &[u8]) -> Stepped
     ensures { λ r. ⌜ r ≡ stepOf b (now (rec .entry)) ⌝ }
 {
-    if rec.len() == 8 {
-        let e = run_bytes(b, rec, 1);
-        let cause = e.cause;
-        let bench = e.bench;
-        return Stepped {
-            answer: answer_to(cause),
-            bench,
-        };
-    }
-    if is_sound(b) {
-        Stepped {
-            answer: turned_away(3),
-            bench: b,
-        }
-    } else {
-        Stepped {
-            answer: turned_away(2),
-            bench: b,
-        }
+    let e = run_bytes(b, record_in(rec), 1);
+    let cause = e.cause;
+    let bench = e.bench;
+    Stepped {
+        answer: answer_to(e.accepted, cause),
+        bench,
     }
 }
 
@@ -92,12 +85,19 @@ fn updated(c: Counters, accepted: bool, crash: bool) -> Counters
     }
 }
 
+// The tally after an answer to `rec`.
+pub fn tally_after(c: Counters, a: Answer, rec: &[u8]) -> Counters
+    ensures { λ r. ⌜ r ≡ tallied (isAccepted a) (crashByte (now (rec .entry))) c ⌝ }
+{
+    updated(c, is_accepted(a), crash_byte(rec))
+}
+
 // The tally by value.
 pub fn step_counted(b: Bench, rec: &[u8], c: Counters) -> Counted
     ensures { λ r. ⌜ r ≡ countedOf b (now (rec .entry)) c ⌝ }
 {
     let stepped = step_bytes(b, rec);
     let answer = stepped.answer;
-    let counters = updated(c, is_accepted(answer), crash_byte(rec));
+    let counters = tally_after(c, answer, rec);
     Counted { stepped, counters }
 }

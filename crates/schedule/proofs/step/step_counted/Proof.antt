@@ -7,20 +7,12 @@ use Rattle.schedule.proofs.step.step_counted.Tie as tie
 step-bytes-requires : tie.Need-step-bytes-requires
 step-bytes-requires c κs = search needs
 
-is-accepted-requires : tie.Need-is-accepted-requires
-is-accepted-requires c κs = search needs
-
-crash-byte-requires : tie.Need-crash-byte-requires
-crash-byte-requires c κs = search needs
-
-updated-requires : tie.Need-updated-requires
-updated-requires c κs = search needs
+tally-after-requires : tie.Need-tally-after-requires
+tally-after-requires c κs = search needs
 
 returns : tie.Need-returns
 unfolding countedOf
-returns c = rw (c .updated .ensures, c .before .crash-byte .ensures, c .before .before .is-accepted .ensures, c .before .before .before .step-bytes .ensures, tally-step _ _ _)
+returns c = rw (c .tally-after .ensures, c .before .step-bytes .ensures, tally-step _ _ _)
 
 pub step-counted-spec : {M : Type 1} → statement M
-step-counted-spec =
-    tie.close
-    (tie.spec step-bytes-requires is-accepted-requires crash-byte-requires updated-requires returns)
+step-counted-spec = tie.close (tie.spec step-bytes-requires tally-after-requires returns)

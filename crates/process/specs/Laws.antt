@@ -41,6 +41,10 @@ advanceTo a g p =
       received = p .received;
     })
 
+pub advance-filled : (a : ℕ) (rows : ℕ → GlobalData) (p : Process) → advanceOf a rows p ≡ advanceTo a (filledOf a rows p) p
+unfolding advanceOf advanceTo
+advance-filled a rows p = refl
+
 -- the sets of l, with y in the one at `at`, each written anew
 unfoldable pub wordsWith : List ℕ → ℕ → ℕ → List ℕ
 wordsWith l at y = each 16 (λ j. choose (same at j) (insertOf (getD l j 0) y) (getD l j 0))
@@ -69,9 +73,10 @@ module _ (l : List ℕ) (at y : ℕ) (e : length l ≡ 16) where
       sym (each-getD 16 (λ j. choose (same at j) (insertOf (getD l j 0) y) (getD l j 0)) 0 l e
       (λ k b. sym (choose-off (same at k) (insertOf (getD l k 0) y) (getD l k 0) (same-off at k (λ p. omega (arith, p))))))
 
--- step 3 with every set written anew; past the last where the estimate is not kept
-pub receive-words : (y r at : ℕ) (p : Process) → length (p .received) ≡ 16 → r ≤ 16 → 1 ≤ r → at ≡ choose (keeps p y r) (r - 1) 16
-    → record {
+-- p with other sets
+abbrev pub withReceived : Process → List ℕ → Process
+withReceived p l =
+    record {
       round = p .round;
       decided = p .decided;
       previous = p .previous;
@@ -79,31 +84,22 @@ pub receive-words : (y r at : ℕ) (p : Process) → length (p .received) ≡ 16
       suspected = p .suspected;
       outbox = p .outbox;
       estimate = p .estimate;
-      received = wordsWith (p .received) at y;
-    } ≡ receiveOf y r p
+      received = l;
+    }
+
+-- step 3 with every set written anew; `at` is past the last where the estimate is not kept
+pub receive-words : (y r at : ℕ) (p : Process) → length (p .received) ≡ 16 → r ≤ 16 → 1 ≤ r → at ≡ choose (keeps p y r) (r - 1) 16
+    → withReceived p (wordsWith (p .received) at y) ≡ receiveOf y r p
 unfolding receiveOf
 receive-words y r at p e h l a = go (is (keeps p y r))
   where
-    go : Is (keeps p y r) → record {
-      round = p .round;
-      decided = p .decided;
-      previous = p .previous;
-      current = p .current;
-      suspected = p .suspected;
-      outbox = p .outbox;
-      estimate = p .estimate;
-      received = wordsWith (p .received) at y;
-    } ≡ receiveOf y r p
+    go : Is (keeps p y r) → withReceived p (wordsWith (p .received) at y) ≡ receiveOf y r p
     go (on k) =
         let b : at ≡ r - 1 = a ∙ choose-on (keeps p y r) (r - 1) 16 k in
         rw (choose-on (keeps p y r) _ p k, words-set (p .received) at y e (omega arith), b)
     go (off k) =
         let b : at ≡ 16 = a ∙ choose-off (keeps p y r) (r - 1) 16 k in
         rw (choose-off (keeps p y r) _ p k, words-kept (p .received) at y e (omega arith))
-
-pub advance-filled : (a : ℕ) (rows : ℕ → GlobalData) (p : Process) → advanceOf a rows p ≡ advanceTo a (filledOf a rows p) p
-unfolding advanceOf advanceTo
-advance-filled a rows p = refl
 
 module _ (n t a : ℕ) (rows : ℕ → GlobalData) (p : Process) where
   pub close-on : decidesOf n t a rows p ≡ true → closeOf n t a rows p ≡ decideOf (filledOf a rows p) (owedOf n a p) p

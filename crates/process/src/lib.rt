@@ -37,7 +37,8 @@ fn word_with(m: u16, put: bool, y: usize) -> u16
     if put { sets::insert(m, y) } else { m }
 }
 
-// The sets, with y in the one at `at`; at 16 there is none. Each is written, since a store at an index that is known late makes the next read wait.
+// The sets, with y in the one at `at`; at 16 there is none. Each is written, since a store at an index that is known late makes the
+// next read wait.
 fn words_with(words: [u16; 16], at: u16, y: usize) -> [u16; 16]
     requires { ⌜ y < 16 ⌝ }
     ensures { λ r. ⌜ r ≡ wordsWith words at y ⌝ }

@@ -10,8 +10,8 @@ use bench::Listed;
 use bench::Shown;
 use bench::list::in_transit;
 use bench::show::global_data;
+use one_record::step_bytes;
 use schedule::run::run_bytes;
-use schedule::step::step_bytes;
 
 pub fn say(name: &[u8], part: &[u8], number: u64) {
     io::write_all(1, name);

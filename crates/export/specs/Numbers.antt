@@ -15,7 +15,7 @@ use Rattle.bench.specs.declared.Counters.{Counters}
 use Rattle.bench.specs.declared.Opened.{Opened}
 use Rattle.bench.specs.declared.Ended.{Ended}
 use Rattle.bench.specs.Calls.{openOf}
-use Rattle.schedule.specs.StepLaws.{answerTo, isAccepted, crashByte, tallied}
+use Rattle.one_record.specs.StepLaws.{answerTo, isAccepted, crashByte, tallied}
 use Rattle.aggregates.specs.Answers as sums
 use Rattle.export.specs.declared.HostOpened.{HostOpened}
 use Rattle.export.specs.declared.HostStepped.{HostStepped}

@@ -9,7 +9,7 @@ use Rattle.bench.specs.declared.Counters.{Counters}
 use Rattle.bench.specs.declared.Ended.{Ended}
 use Rattle.bench.specs.declared.Stepped.{Stepped}
 use Rattle.bench.specs.Calls.{stepOf, tallyOf, runOf}
-use Rattle.schedule.specs.StepLaws.{recordIn, answerTo, steppedBy, step-run, isAccepted, crashByte, tallied, tally-step}
+use Rattle.one_record.specs.StepLaws.{recordIn, answerTo, steppedBy, step-run, isAccepted, crashByte, tallied, tally-step}
 use Rattle.export.specs.Numbers.{answerNumber, causeNumber, reachedOf, progressOf, hostRanOf, hostSteppedOf}
 
 -- ---- a run

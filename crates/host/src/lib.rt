@@ -1,12 +1,12 @@
 // The calls as a host makes them, in the forms that document 01 names: run hands back the part of the lent schedule that it has not
-// taken, and the call for one record updates the tally that the host lends. Each is thin, over a function of `schedule` by value.
+// taken, and the call for one record updates the tally that the host lends. Each is thin, over functions by value.
 use bench::Bench;
 use bench::Cause;
 use bench::Counters;
 use bench::Stepped;
+use one_record::step_counted;
+use one_record::tail;
 use schedule::run::run_bytes;
-use schedule::run::tail;
-use schedule::step::step_counted;
 ghost use mathlib.Core.Path.{_≡_};
 ghost use lib.ListN.{drop};
 ghost use Rattle.bench.specs.Calls.{runOf, stepOf, tallyOf};

@@ -19,7 +19,6 @@ use process::Process;
 ghost use mathlib.Core.Path.{_≡_};
 ghost use mathlib.Core.Bool.{true};
 ghost use Prim.Native.Nat.{_-_, _<_, _≤_};
-ghost use lib.ListN.{drop};
 ghost use Rattle.bench.specs.declared.Cause.the-variants.{Refused as RefusedRun};
 ghost use Rattle.bench.specs.Sound.{soundOf};
 ghost use Rattle.bench.specs.Refuse.{numberOf};
@@ -223,12 +222,4 @@ pub fn run_bytes(bench: Bench, schedule: &[u8], budget: u32) -> Ended
         cause: Cause::Empty,
         taken: at,
     }
-}
-
-// What is left after `at` bytes.
-pub fn tail(s: &[u8], at: usize) -> &[u8]
-    ensures { λ r. ⌜ now r ≡ drop at (now (s .entry)) ⌝ }
-{
-    let n = s.len();
-    if at <= n { &s[at..] } else { &s[n..] }
 }

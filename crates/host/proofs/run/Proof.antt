@@ -57,10 +57,10 @@ use Rattle.schedule.proofs.run.run_bytes as bytes
 use Rattle.schedule.proofs.run.run_bytes.Symbol as bytes-symbol
 use Rattle.schedule.proofs.run.run_bytes.Symbol.{name as #run-bytes}
 use Rattle.schedule.proofs.run.run_bytes.Met as bytes-met
-use Rattle.schedule.proofs.run.tail as tail
-use Rattle.schedule.proofs.run.tail.Symbol as tail-symbol
-use Rattle.schedule.proofs.run.tail.Symbol.{name as #tail}
-use Rattle.schedule.proofs.run.tail.Met as tail-met
+use Rattle.one_record.proofs.tail as tail
+use Rattle.one_record.proofs.tail.Symbol as tail-symbol
+use Rattle.one_record.proofs.tail.Symbol.{name as #tail}
+use Rattle.one_record.proofs.tail.Met as tail-met
 use Rattle.host.proofs.run.Key.{name as #run}
 use Rattle.host.proofs.run as this
 use Rattle.host.proofs.run.Statement as stated
@@ -285,4 +285,4 @@ run-spec 𝓤 H 𝓜 𝓖 𝓡 =
     (𝓣 .C) (𝓣 .Λ) #run code.function (code.unfolded 𝓤 H 𝓜 𝓡)
     (meets 𝓤 H (𝓖 .A) (givenOf 𝓤 H 𝓜 𝓖) (𝓜 .mem) (𝓡 .run) (tablesOf 𝓤 H 𝓜 𝓣)
     (cited 𝓤 H (Bytes 𝓤 H (𝓖 .A) (𝓜 .mem) (𝓡 .run)) 𝓜 𝓡 code.env #run-bytes bytes-symbol.routine code.calls-schedule·run·run-bytes (bytes-met.met 𝓤 H 𝓜 𝓖 𝓡))
-    (cited 𝓤 H (Tail 𝓤 H (𝓖 .A) (𝓜 .mem) (𝓡 .run)) 𝓜 𝓡 code.env #tail tail-symbol.routine code.calls-schedule·run·tail (tail-met.met 𝓤 H 𝓜 𝓖 𝓡)))
+    (cited 𝓤 H (Tail 𝓤 H (𝓖 .A) (𝓜 .mem) (𝓡 .run)) 𝓜 𝓡 code.env #tail tail-symbol.routine code.calls-one-record·tail (tail-met.met 𝓤 H 𝓜 𝓖 𝓡)))

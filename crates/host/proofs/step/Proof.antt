@@ -41,23 +41,23 @@ use denote.Triple.Table.{entered, cited}
 use denote.Triple.Walked.{says, Stays, stay-none, stay-none-slice, stay-ref, walkOf, goes-none, goes-none-slice, goes-ref, Walks, ends-at, walked, walk-meets}
 use denote.Triple.Clauses.{ensured, lasts}
 use denote.Exit.{yes}
-use Rattle.schedule.specs.StepLaws.{countedOf}
+use Rattle.one_record.specs.StepLaws.{countedOf}
 use Rattle.bench.specs.declared.Bench.{Bench}
 use Rattle.bench.specs.declared.Stepped.{Stepped}
 use Rattle.bench.specs.declared.Counters.{Counters}
-use Rattle.schedule.specs.declared.Counted.{Counted}
+use Rattle.one_record.specs.declared.Counted.{Counted}
 use Rattle.bench.proofs.Bench as bench
 use Rattle.bench.proofs.Bench.Laws as bench-laws
 use Rattle.bench.proofs.Stepped as stepped
 use Rattle.bench.proofs.Stepped.Laws as stepped-laws
 use Rattle.bench.proofs.Counters as counters
 use Rattle.bench.proofs.Counters.Laws as counters-laws
-use Rattle.schedule.proofs.Counted as counted
-use Rattle.schedule.proofs.Counted.Laws as counted-laws
-use Rattle.schedule.proofs.step.step_counted as by-value
-use Rattle.schedule.proofs.step.step_counted.Symbol as by-value-symbol
-use Rattle.schedule.proofs.step.step_counted.Symbol.{name as #step-counted}
-use Rattle.schedule.proofs.step.step_counted.Met as by-value-met
+use Rattle.one_record.proofs.Counted as counted
+use Rattle.one_record.proofs.Counted.Laws as counted-laws
+use Rattle.one_record.proofs.step_counted as by-value
+use Rattle.one_record.proofs.step_counted.Symbol as by-value-symbol
+use Rattle.one_record.proofs.step_counted.Symbol.{name as #step-counted}
+use Rattle.one_record.proofs.step_counted.Met as by-value-met
 use Rattle.host.proofs.step.Key.{name as #step}
 use Rattle.host.proofs.step as this
 use Rattle.host.proofs.step.Statement as stated
@@ -255,4 +255,4 @@ step-spec 𝓤 H 𝓜 𝓖 𝓡 =
     entered 𝓤 H (tripleOf 𝓤 H (𝓖 .A) this.signature (this.spec 𝓤 H (𝓖 .A) (𝓜 .mem) (𝓡 .run)))
     (𝓣 .C) (𝓣 .Λ) #step code.function (code.unfolded 𝓤 H 𝓜 𝓡)
     (meets 𝓤 H (𝓖 .A) (givenOf 𝓤 H 𝓜 𝓖) (𝓜 .mem) (𝓡 .run) (tablesOf 𝓤 H 𝓜 𝓣)
-    (cited 𝓤 H (Call 𝓤 H (𝓖 .A) (𝓜 .mem) (𝓡 .run)) 𝓜 𝓡 code.env #step-counted by-value-symbol.routine code.calls-schedule·step·step-counted (by-value-met.met 𝓤 H 𝓜 𝓖 𝓡)))
+    (cited 𝓤 H (Call 𝓤 H (𝓖 .A) (𝓜 .mem) (𝓡 .run)) 𝓜 𝓡 code.env #step-counted by-value-symbol.routine code.calls-one-record·step-counted (by-value-met.met 𝓤 H 𝓜 𝓖 𝓡)))

@@ -51,7 +51,7 @@ use Rattle.bench.proofs.Counters as counters
 use Rattle.bench.proofs.Counters.Laws as counters-laws
 use Rattle.bench.specs.declared.Ended.{Ended}
 use Rattle.bench.specs.Calls.{runOf}
-use Rattle.schedule.specs.StepLaws.{recordIn}
+use Rattle.one_record.specs.StepLaws.{recordIn}
 use Rattle.export.specs.Numbers.{reachedOf, hostSteppedOf}
 use Rattle.export.specs.ReachedLaws.{step-bench, step-number, step-counters}
 use Rattle.export.specs.declared.Reached.{Reached}
@@ -62,10 +62,10 @@ use Rattle.export.proofs.Reached as reached
 use Rattle.export.proofs.Reached.Laws as reached-laws
 use Rattle.export.proofs.HostStepped as result
 use Rattle.export.proofs.HostStepped.Laws as result-laws
-use Rattle.schedule.proofs.step.record_in as cut
-use Rattle.schedule.proofs.step.record_in.Symbol as cut-symbol
-use Rattle.schedule.proofs.step.record_in.Symbol.{name as #cut}
-use Rattle.schedule.proofs.step.record_in.Met as cut-met
+use Rattle.one_record.proofs.record_in as cut
+use Rattle.one_record.proofs.record_in.Symbol as cut-symbol
+use Rattle.one_record.proofs.record_in.Symbol.{name as #cut}
+use Rattle.one_record.proofs.record_in.Met as cut-met
 use Rattle.export.proofs.calls.run_in.Symbol as run-symbol
 use Rattle.export.proofs.calls.run_in.Symbol.{name as #run}
 use Rattle.export.proofs.calls.run_in.Met as run-met
@@ -290,6 +290,6 @@ bench-step-spec 𝓤 H 𝓜 𝓖 𝓡 =
     entered 𝓤 H (tripleOf 𝓤 H (𝓖 .A) this.signature (this.spec 𝓤 H (𝓖 .A) (𝓜 .mem) (𝓡 .run)))
     (𝓣 .C) (𝓣 .Λ) #this code.function (code.unfolded 𝓤 H 𝓜 𝓡)
     (meets 𝓤 H (𝓖 .A) (givenOf 𝓤 H 𝓜 𝓖) (𝓜 .mem) (𝓡 .run) (tablesOf 𝓤 H 𝓜 𝓣)
-    (cited 𝓤 H (Cut 𝓤 H (𝓖 .A) (𝓜 .mem) (𝓡 .run)) 𝓜 𝓡 code.env #cut cut-symbol.routine code.calls-schedule·step·record-in (cut-met.met 𝓤 H 𝓜 𝓖 𝓡))
+    (cited 𝓤 H (Cut 𝓤 H (𝓖 .A) (𝓜 .mem) (𝓡 .run)) 𝓜 𝓡 code.env #cut cut-symbol.routine code.calls-one-record·record-in (cut-met.met 𝓤 H 𝓜 𝓖 𝓡))
     (cited 𝓤 H (Run 𝓤 H (𝓖 .A) (𝓜 .mem) (𝓡 .run)) 𝓜 𝓡 code.env #run run-symbol.routine code.calls-export·calls·run-in (run-met.met 𝓤 H 𝓜 𝓖 𝓡))
     (cited 𝓤 H (Work 𝓤 H (𝓖 .A) (𝓜 .mem) (𝓡 .run)) 𝓜 𝓡 code.env #work work-symbol.routine code.calls-export·numbers·host-stepped (work-met.met 𝓤 H 𝓜 𝓖 𝓡)))

@@ -10,7 +10,7 @@ use Rattle.sets.specs.Truth.{_&&_, _||_, same, choose}
 use Rattle.global_data.specs.declared.GlobalData.{GlobalData}
 use Rattle.global_data.specs.GlobalData.{Entry, absent, value, entryOf, sameEntry, rowsOf, filledWord, fillOf, fillFrom, sameTo, allSame}
 use Rattle.process.specs.declared.Process.{Process}
-use Rattle.process.specs.Steps.{openOf, arrivedOf, nextOf, peersOf, filledOf, agreedOf, decidesOf, owedOf, decideOf, advanceOf, closeOf}
+use Rattle.process.specs.Steps.{hasDecided, openOf, arrivedOf, nextOf, peersOf, filledOf, agreedOf, decidesOf, owedOf, decideOf, advanceOf, closeOf}
 
 -- a process before a close: sets are bits, and `arrived` is whose estimates of this round have arrived
 pub record Start : Type 0 where
@@ -62,7 +62,7 @@ processOf : Start → Process
 processOf s =
     record {
       round = s .round;
-      decided = false;
+      decided = 0;
       previous = s .previous;
       current = s .current;
       suspected = s .suspected;
@@ -85,7 +85,7 @@ pub passes : Case → Bool
 passes c =
     let p = closeOf (c .n) (c .t) (c .a) (rowsOf (rowsFrom (c .rows))) (processOf (c .start)) in
     let e = c .end in
-    sameBool (p .decided) (e .decided)
+    sameBool (hasDecided p) (e .decided)
     && (same (p .round) (e .round)
     && (same (p .previous) (e .previous)
     && (same (p .current) (e .current) && (same (p .outbox) (e .outbox) && shows 0 (p .estimate) (e .estimate)))))
@@ -189,5 +189,5 @@ pub cases : allPass table ≡ true
 unfolding dataFrom rowsFrom word pred processOf sameBool shows passes allPass agreement ownOld suspectedSender setsDiffer zeroOrAbsent lastRound lowest table
     has insertOf removeOf unionOf intersectionOf differenceOf allOf _&&_ _||_ same choose every each
     entryOf sameEntry filledWord fillOf fillFrom sameTo allSame
-    openOf arrivedOf nextOf peersOf filledOf agreedOf decidesOf owedOf decideOf advanceOf closeOf
+    hasDecided openOf arrivedOf nextOf peersOf filledOf agreedOf decidesOf owedOf decideOf advanceOf closeOf
 cases = refl

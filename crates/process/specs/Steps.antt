@@ -11,14 +11,14 @@ use Rattle.process.specs.declared.Process.{Process}
 
 -- what stands outside an array of processes
 abbrev pub noProcess : Process
-noProcess = record { round = 0; decided = false; previous = 0; current = 0; suspected = 0; outbox = 0; estimate = noData; received = [] }
+noProcess = record { round = 0; decided = 0; previous = 0; current = 0; suspected = 0; outbox = 0; estimate = noData; received = [] }
 
 -- a process that has not started
 unfoldable pub idleOf : Process
 idleOf =
     record {
       round = 0;
-      decided = false;
+      decided = 0;
       previous = emptySet;
       current = emptySet;
       suspected = emptySet;
@@ -27,9 +27,13 @@ idleOf =
       received = replicate 16 0;
     }
 
+-- it has decided: every byte but 0 says so
+unfoldable pub hasDecided : Process → Bool
+hasDecided p = not (same (p .decided) 0)
+
 -- it has started and not decided
 unfoldable pub takesPart : Process → Bool
-takesPart p = below 0 (p .round) && not (p .decided)
+takesPart p = below 0 (p .round) && not (hasDecided p)
 
 -- ---- step 1, start: the estimate is absent but for its own value; previous: all n; current: all n without those it suspects
 abbrev pub begunOf : ℕ → ℕ → ℕ → Process → Process
@@ -65,7 +69,7 @@ startOf n a v p = openOf a (begunOf n a v p)
 
 -- ---- step 3, arrival of an estimate of round r from y: kept for a round not yet reached, or for this round from the current set; else nothing changes
 unfoldable pub keeps : Process → ℕ → ℕ → Bool
-keeps p y r = not (p .decided) && (below (p .round) r || (same r (p .round) && has (p .current) y))
+keeps p y r = not (hasDecided p) && (below (p .round) r || (same r (p .round) && has (p .current) y))
 
 unfoldable pub receiveOf : ℕ → ℕ → Process → Process
 receiveOf y r p =
@@ -136,7 +140,7 @@ unfoldable pub decideOf : GlobalData → ℕ → Process → Process
 decideOf g m p =
     record {
       round = p .round;
-      decided = true;
+      decided = 1;
       previous = p .previous;
       current = p .current;
       suspected = p .suspected;
@@ -156,7 +160,7 @@ adoptOf n a k g p = choose (takesPart p) (decideOf g (removeOf (owedOf n a p) k)
 
 -- ---- a send: its message is 0, the decision, once it has decided, else the estimate of its round
 unfoldable pub messageOf : Process → ℕ
-messageOf p = choose (p .decided) 0 (p .round)
+messageOf p = choose (hasDecided p) 0 (p .round)
 
 -- what it owed b it no longer owes
 unfoldable pub sendOf : ℕ → Process → Process

@@ -2,7 +2,7 @@
 ghost use mathlib.Core.Path.{_≡_};
 ghost use Prim.Native.Nat.{_<_, _≤_};
 ghost use Rattle.global_data.specs.GlobalData.{rowsOf};
-ghost use Rattle.process.specs.Steps.{idleOf, takesPart, openOf, startOf, keeps, receiveOf, arrivedOf, dueOf, nextOf, peersOf, filledOf, agreedOf, decidesOf, owedOf, decideOf, closeOf, adoptOf, messageOf, sendOf, suspectOf};
+ghost use Rattle.process.specs.Steps.{idleOf, hasDecided, takesPart, openOf, startOf, keeps, receiveOf, arrivedOf, dueOf, nextOf, peersOf, filledOf, agreedOf, decidesOf, owedOf, decideOf, closeOf, adoptOf, messageOf, sendOf, suspectOf};
 ghost use Rattle.process.specs.Laws.{advanceTo, wordsWith};
 ghost use Rattle.sets.specs.Truth.{choose};
 ghost use Rattle.sets.specs.Set.{insertOf};
@@ -15,7 +15,8 @@ use global_data::same_all;
 pub struct Process {
     // 0 before its start
     pub round: u8,
-    pub decided: bool,
+    // not 0 once it has decided; a step that decides writes 1
+    pub decided: u8,
     // before-set and now-set
     pub previous: u16,
     pub current: u16,
@@ -71,7 +72,7 @@ impl Process {
     {
         Process {
             round: 0,
-            decided: false,
+            decided: 0,
             previous: 0,
             current: 0,
             suspected: 0,
@@ -81,11 +82,18 @@ impl Process {
         }
     }
 
+    // Every byte but 0 says that it has decided.
+    pub fn has_decided(self) -> bool
+        ensures { λ r. ⌜ r ≡ hasDecided self ⌝ }
+    {
+        self.decided != 0
+    }
+
     // It has started and not decided.
     pub fn takes_part(self) -> bool
         ensures { λ r. ⌜ r ≡ takesPart self ⌝ }
     {
-        (0 < self.round) & !self.decided
+        (0 < self.round) & !self.has_decided()
     }
 
     // Step 2: the next round opens, and it owes its estimate to the others of its current set.
@@ -122,7 +130,7 @@ impl Process {
         ensures { λ b. ⌜ b ≡ keeps self y r ⌝ }
     {
         let at = self.round as usize;
-        !self.decided & ((at < r) | ((r == at) & sets::member(self.current, y)))
+        !self.has_decided() & ((at < r) | ((r == at) & sets::member(self.current, y)))
     }
 
     // Step 3: the estimate of round r from y arrives.
@@ -261,7 +269,7 @@ impl Process {
     pub fn decide(mut self, g: GlobalData, m: u16) -> Process
         ensures { λ r. ⌜ r ≡ decideOf g m self ⌝ }
     {
-        self.decided = true;
+        self.decided = 1;
         self.outbox = m;
         self.estimate = g;
         self
@@ -284,7 +292,7 @@ impl Process {
     pub fn message(self) -> usize
         ensures { λ r. ⌜ r ≡ messageOf self ⌝ }
     {
-        if self.decided { 0 } else { self.round as usize }
+        if self.has_decided() { 0 } else { self.round as usize }
     }
 
     // It has sent b what it owed.

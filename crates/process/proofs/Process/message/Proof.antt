@@ -1,20 +1,24 @@
--- `Process::message` is the step: a case for each value of `decided`.
+-- `Process::message` is the step: a case for each answer of `has_decided`.
+use mathlib.Core.Path.{sym, _∙_}
 use borrow.Author.Needs.{needs}
 use Rattle.sets.specs.Truth.{choose}
 use Rattle.process.specs.Steps.{messageOf}
 use Rattle.process.proofs.Process.message.Statement.{statement}
 use Rattle.process.proofs.Process.message.Tie as tie
 
+has-decided-requires : tie.Need-has-decided-requires
+has-decided-requires c κs = search needs
+
 cast-result : tie.Need-cast-result
 cast-result c = search needs
 
 returns : tie.Need-returns
 unfolding messageOf choose
-returns c = cc
+returns c = rw (sym (c .before .has-decided .ensures) ∙ c .if1 .taken)
 
 returns-2 : tie.Need-returns-2
 unfolding messageOf choose
-returns-2 c = cc
+returns-2 c = rw (sym (c .before .before .has-decided .ensures) ∙ c .before .if1 .left)
 
 pub message-spec : {M : Type 1} → statement M
-message-spec = tie.close (tie.spec cast-result returns returns-2)
+message-spec = tie.close (tie.spec has-decided-requires cast-result returns returns-2)

@@ -1,12 +1,16 @@
 -- `Process::takes_part` is the test, joined by the same operators.
+use borrow.Author.Needs.{needs}
 use Rattle.sets.specs.Truth.{_&&_, below}
 use Rattle.process.specs.Steps.{takesPart}
 use Rattle.process.proofs.Process.takes_part.Statement.{statement}
 use Rattle.process.proofs.Process.takes_part.Tie as tie
 
+has-decided-requires : tie.Need-has-decided-requires
+has-decided-requires c κs = search needs
+
 returns : tie.Need-returns
 unfolding takesPart _&&_ below
-returns c = cc
+returns c = rw (c .has-decided .ensures)
 
 pub takes-part-spec : {M : Type 1} → statement M
-takes-part-spec = tie.close (tie.spec returns)
+takes-part-spec = tie.close (tie.spec has-decided-requires returns)

@@ -12,7 +12,7 @@ use Rattle.sets.specs.Count.{bit}
 use Rattle.sets.specs.Truth.{_&&_, _||_, same, below, choose, Is, on, off, is, choose-on, choose-off, and-on-l, and-off-l, and-off-r, or-off-l, same-refl, same-off, below-mk, below-off, below-on, eq-or, le-or}
 use Rattle.global_data.specs.declared.GlobalData.{GlobalData}
 use Rattle.process.specs.declared.Process.{Process}
-use Rattle.process.specs.Steps.{noProcess, idleOf}
+use Rattle.process.specs.Steps.{hasDecided, noProcess, idleOf}
 use Rattle.bench.specs.declared.Bench.{Bench}
 use Rattle.bench.specs.State.{processAt, sentAt, transitAt, crashedAt, withProcess, withSent, withTransit, openedOf}
 use Rattle.bench.specs.Effect.{opensRound}
@@ -34,7 +34,7 @@ viewOf s c =
     record {
       round = λ x. processAt s x .round;
       closed = λ x. processAt s x .round + bit (c x);
-      decided = λ x. processAt s x .decided;
+      decided = λ x. hasDecided (processAt s x);
       crashed = λ x. crashedAt s x;
       previous = λ x y. has (processAt s x .previous) y;
       current = λ x y. has (processAt s x .current) y;
@@ -132,7 +132,7 @@ module _ (s s′ : Bench) (a : ℕ) (p : Process) (P : Placed s s′ a p) where
     value = λ x k ne. rw (P .there x ne);
   }
 
-  pub decision-of : (c c′ : ℕ → Bool) → p .decided ≡ processAt s a .decided → p .estimate ≡ processAt s a .estimate
+  pub decision-of : (c c′ : ℕ → Bool) → hasDecided p ≡ hasDecided (processAt s a) → p .estimate ≡ processAt s a .estimate
       → SameDecision (viewOf s c) (viewOf s′ c′) a
   unfolding viewOf
   decision-of c c′ d e = record { decided = rw (P .here) d; estimate = λ k. rw (P .here, e); value = λ k. rw (P .here, e) }
@@ -230,7 +230,7 @@ heard-more p p′ a r Z h d e m y = rw e (go (eq-or m r))
 
 record Unstarted (p : Process) : Type 0 where
   round : p .round ≡ 0
-  decided : p .decided ≡ false
+  decided : hasDecided p ≡ false
   previous : p .previous ≡ 0
   current : p .current ≡ 0
   suspected : p .suspected ≡ 0
@@ -243,7 +243,7 @@ all-at m i v = ⊎-elim (λ l. List·getD-eq-default (replicate m v) v (omega (a
 
 module _ (n t : ℕ) where
   unstarted : (x : ℕ) → Unstarted (processAt (openedOf n t) x)
-  unfolding openedOf processAt idleOf
+  unfolding openedOf processAt idleOf hasDecided same
   unstarted x =
       ⊎-elim
       (λ l. rw (List·getD-eq-default (replicate 16 idleOf) noProcess l) record {

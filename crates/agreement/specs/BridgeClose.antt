@@ -13,8 +13,8 @@ use Rattle.global_data.specs.declared.GlobalData.{GlobalData}
 use Rattle.global_data.specs.GlobalData.{value, entryOf, sameTo, allSame}
 use Rattle.global_data.specs.Laws.{entry-present, entry-absent, value-present, fill-stays, fill-has, fill-comes, Lowest, same-on as same-data-on, same-not as same-data-not, allSame-on, allSame-not}
 use Rattle.process.specs.declared.Process.{Process}
-use Rattle.process.specs.Steps.{openOf, arrivedOf, dueOf, nextOf, peersOf, filledOf, decidesOf, owedOf, decideOf, advanceOf, takesPart}
-use Rattle.process.specs.Laws.{close-on, close-off, has-arrived, has-next, has-peers, due-on, decides-set, decides-own, decides-peers, open-round, open-test, next-lt, filled-lt}
+use Rattle.process.specs.Steps.{hasDecided, openOf, arrivedOf, dueOf, nextOf, peersOf, filledOf, decidesOf, owedOf, decideOf, advanceOf, takesPart}
+use Rattle.process.specs.Laws.{decide-decided, advance-decided, close-on, close-off, has-arrived, has-next, has-peers, due-on, decides-set, decides-own, decides-peers, open-round, open-test, next-lt, filled-lt}
 use Rattle.bench.specs.declared.Bench.{Bench}
 use Rattle.bench.specs.declared.Event.{Event}
 use Rattle.bench.specs.declared.Event.the-variants.{Start as StartOf, Send as SendOf, Arrive as ArriveOf, Close as CloseOf, Crash as CrashOf, Suspect as SuspectOf}
@@ -74,7 +74,7 @@ unfoldable pub closersOf : Event → Bench → (ℕ → Bool) → ℕ → Bool
 closersOf (StartOf a v) s c = c
 closersOf (SendOf a b) s c = c
 closersOf (ArriveOf a b m) s c = c
-closersOf (CloseOf a) s c = λ x. (same x a && processAt (effect (CloseOf a) s) a .decided) || c x
+closersOf (CloseOf a) s c = λ x. (same x a && hasDecided (processAt (effect (CloseOf a) s) a)) || c x
 closersOf (CrashOf a) s c = c
 closersOf (SuspectOf a b) s c = c
 
@@ -82,11 +82,11 @@ pub closers-there : (s : Bench) (c : ℕ → Bool) (a x : ℕ) → x ≢ a → c
 unfolding closersOf
 closers-there s c a x ne = or-off-l _ _ (and-off-l _ _ (same-off x a ne))
 
-pub closers-open : (s : Bench) (c : ℕ → Bool) (a : ℕ) → processAt (effect (CloseOf a) s) a .decided ≡ false → (x : ℕ) → closersOf (CloseOf a) s c x ≡ c x
+pub closers-open : (s : Bench) (c : ℕ → Bool) (a : ℕ) → hasDecided (processAt (effect (CloseOf a) s) a) ≡ false → (x : ℕ) → closersOf (CloseOf a) s c x ≡ c x
 unfolding closersOf
 closers-open s c a e x = or-off-l _ _ (and-off-r _ _ e)
 
-pub closers-decide : (s : Bench) (c : ℕ → Bool) (a : ℕ) → processAt (effect (CloseOf a) s) a .decided ≡ true → closersOf (CloseOf a) s c a ≡ true
+pub closers-decide : (s : Bench) (c : ℕ → Bool) (a : ℕ) → hasDecided (processAt (effect (CloseOf a) s) a) ≡ true → closersOf (CloseOf a) s c a ≡ true
 unfolding closersOf
 closers-decide s c a e = or-mk-l _ _ (and-mk _ _ (same-refl a) e)
 
@@ -239,7 +239,7 @@ record Closed (s s′ : Bench) (c c′ : ℕ → Bool) (a q : ℕ) (p′ : Proce
   closed : viewOf s′ c′ .closed a ≡ suc (viewOf s c .closed a)
 
 module _ (s : Bench) (c : ℕ → Bool) (Z : Sized s) (K : Bounds s) (B : Basic (s .n) (s .t) (viewOf s c)) (a q : ℕ) (h : a < s .n) (run : crashedAt s a ≡ false)
-    (open-here : processAt s a .decided ≡ false) (is-at : processAt s a .round ≡ suc q) (none : processAt s a .outbox ≡ 0)
+    (open-here : hasDecided (processAt s a) ≡ false) (is-at : processAt s a .round ≡ suc q) (none : processAt s a .outbox ≡ 0)
     (due : dueOf a (processAt s a) ≡ true) where
   close-view : (s′ : Bench) (c′ : ℕ → Bool) (p′ : Process) → Closed s s′ c c′ a q p′ → Close (s .n) (viewOf s c) (viewOf s′ c′) a q
   unfolding viewOf heard
@@ -307,7 +307,7 @@ module _ (s : Bench) (c : ℕ → Bool) (Z : Sized s) (K : Bounds s) (B : Basic 
         record {
           close = close-view _ c′ _ E;
           round = rw (P .here) is-at;
-          decided = rw (P .here);
+          decided = rw (P .here) (decide-decided (processAt s a) _ _);
           previous = λ y. rw (P .here);
           current = λ y. rw (P .here);
           outbox = λ y. rw (P .here) (owed-has (s .n) a (processAt s a) y);
@@ -360,7 +360,7 @@ module _ (s : Bench) (c : ℕ → Bool) (Z : Sized s) (K : Bounds s) (B : Basic 
           close = close-view _ c′ _ open-closed;
           more = more;
           round = rw (P .here) (omega arith);
-          decided = rw (P .here) open-here;
+          decided = rw (P .here) (advance-decided (processAt s a) a (rowsFor s a) ∙ open-here);
           previous = λ y. rw (P .here);
           current = λ y. rw (P .here) (sym (next-has s c K B a q is-at y));
           outbox = λ y. rw (P .here) (has-remove _ a y ∙ ap (λ (u : Bool). u && not (same y a)) (sym (next-has s c K B a q is-at y)));
@@ -372,13 +372,16 @@ module _ (s : Bench) (a : ℕ) where
   effect-decides : decidesAt s a ≡ true
       → effect (CloseOf a) s
       ≡ withProcess s a (decidedAt s a)
-  unfolding effect closesAs decideOf
-  effect-decides e = rw (close-on (s .n) (s .t) a (rowsFor s a) (processAt s a) e) (choose-on _ _ _ refl)
+  unfolding effect closesAs
+  effect-decides e =
+      rw (close-on (s .n) (s .t) a (rowsFor s a) (processAt s a) e) (choose-on _ _ _ (decide-decided (processAt s a) _ _))
 
-  effect-opens : processAt s a .decided ≡ false → decidesAt s a ≡ false
+  effect-opens : hasDecided (processAt s a) ≡ false → decidesAt s a ≡ false
       → effect (CloseOf a) s ≡ opensRound s a (openedAt s a)
-  unfolding effect closesAs advanceOf openOf
-  effect-opens d e = rw (close-off (s .n) (s .t) a (rowsFor s a) (processAt s a) e) (choose-off _ _ _ d)
+  unfolding effect closesAs
+  effect-opens d e =
+      rw (close-off (s .n) (s .t) a (rowsFor s a) (processAt s a) e)
+      (choose-off _ _ _ (advance-decided (processAt s a) a (rowsFor s a) ∙ d))
 
 module _ (s : Bench) (c : ℕ → Bool) (Z : Sized s) (K : Bounds s) (B : Basic (s .n) (s .t) (viewOf s c)) where
   abbrev Ends : ℕ → Type 0
@@ -386,11 +389,11 @@ module _ (s : Bench) (c : ℕ → Bool) (Z : Sized s) (K : Bounds s) (B : Basic 
       (q : ℕ) × (Open (s .n) (s .t) (viewOf s c) (viewOf (effect (CloseOf a) s) (closersOf (CloseOf a) s c)) a q
       ⊎ Decide (s .n) (s .t) (viewOf s c) (viewOf (effect (CloseOf a) s) (closersOf (CloseOf a) s c)) a q)
 
-  ended : (a : ℕ) (s′ : Bench) (p′ : Process) → effect (CloseOf a) s ≡ s′ → Placed s s′ a p′ → processAt (effect (CloseOf a) s) a .decided ≡ p′ .decided
+  ended : (a : ℕ) (s′ : Bench) (p′ : Process) → effect (CloseOf a) s ≡ s′ → Placed s s′ a p′ → hasDecided (processAt (effect (CloseOf a) s) a) ≡ hasDecided p′
   ended a s′ p′ e P = rw (e, P .here)
 
   pub close-step : (a : ℕ) → a < s .n → refuses (CloseOf a) s ≡ 0 → Ends a
-  unfolding possible ready actor takesPart decideOf advanceOf openOf
+  unfolding possible ready actor takesPart
   close-step a h z = (processAt s a .round - 1, go (is (decidesAt s a)))
     where
       A : Passes (CloseOf a) s
@@ -399,7 +402,7 @@ module _ (s : Bench) (c : ℕ → Bool) (Z : Sized s) (K : Bounds s) (B : Basic 
       q : ℕ
       q = processAt s a .round - 1
 
-      open-here : processAt s a .decided ≡ false
+      open-here : hasDecided (processAt s a) ≡ false
       open-here = not-on _ (and-r _ _ (and-l _ _ (A .is-possible)))
 
       is-at : processAt s a .round ≡ suc q
@@ -412,8 +415,13 @@ module _ (s : Bench) (c : ℕ → Bool) (Z : Sized s) (K : Bounds s) (B : Basic 
           → Open (s .n) (s .t) (viewOf s c) (viewOf (effect (CloseOf a) s) (closersOf (CloseOf a) s c)) a q
           ⊎ Decide (s .n) (s .t) (viewOf s c) (viewOf (effect (CloseOf a) s) (closersOf (CloseOf a) s c)) a q
       go (on e) =
-          let d = ended a _ _ (effect-decides s a e) (placed-process s a (decidedAt s a) Z (low s K a h)) in
+          let d =
+          ended a _ _ (effect-decides s a e) (placed-process s a (decidedAt s a) Z (low s K a h))
+          ∙ decide-decided (processAt s a) _ _ in
           inr (rw (effect-decides s a e) (decide-view s c Z K B a q h (A .running) open-here is-at none (A .is-ready) _ e (closers-there s c a) (closers-decide s c a d)))
       go (off e) =
-          let d = ended a _ _ (effect-opens s a open-here e) (open-placed s c Z K B a q h (A .running) open-here is-at none (A .is-ready) c e (λ x. refl)) ∙ open-here in
+          let d =
+          ended a _ _ (effect-opens s a open-here e)
+          (open-placed s c Z K B a q h (A .running) open-here is-at none (A .is-ready) c e (λ x. refl))
+          ∙ advance-decided (processAt s a) a (rowsFor s a) ∙ open-here in
           inl (rw (effect-opens s a open-here e) (open-view s c Z K B a q h (A .running) open-here is-at none (A .is-ready) _ e (closers-open s c a d)))

@@ -9,7 +9,7 @@ use Rattle.sets.specs.Set.{has}
 use Rattle.sets.specs.Laws.{empty-by}
 use Rattle.sets.specs.Count.{bit}
 use Rattle.sets.specs.Truth.{_||_, Is, on, off, is, off-by, and-r, and-mk, and-off-r, or-mk-l, or-mk-r, same-mk, below-mk, eq-or, le-or}
-use Rattle.process.specs.Steps.{takesPart, arrivedOf, dueOf}
+use Rattle.process.specs.Steps.{hasDecided, takesPart, arrivedOf, dueOf}
 use Rattle.process.specs.Laws.{has-arrived, due-mk}
 use Rattle.bench.specs.declared.Bench.{Bench}
 use Rattle.bench.specs.declared.Message.{Message}
@@ -71,16 +71,16 @@ module _ (s : Bench) (c : ℕ → Bool) (Z : Sized s) (K : Bounds s) (B : Basic 
 
 -- an event leaves the closers as they are, but for a close that decides
 pub closers-tie : (e : Event) (s : Bench) (c : ℕ → Bool) (x : ℕ)
-    → (closersOf e s c x ≡ c x) ⊎ ((e ≡ CloseOf x) × (processAt (effect e s) x .decided ≡ true) × (closersOf e s c x ≡ true))
+    → (closersOf e s c x ≡ c x) ⊎ ((e ≡ CloseOf x) × (hasDecided (processAt (effect e s) x) ≡ true) × (closersOf e s c x ≡ true))
 unfolding closersOf
 closers-tie (StartOf a v) s c x = inl refl
 closers-tie (SendOf a b) s c x = inl refl
 closers-tie (ArriveOf a b m) s c x = inl refl
-closers-tie (CloseOf a) s c x = go (eq-or x a) (is (processAt (effect (CloseOf a) s) a .decided))
+closers-tie (CloseOf a) s c x = go (eq-or x a) (is (hasDecided (processAt (effect (CloseOf a) s) a)))
   where
-    go : (x ≡ a) ⊎ (x ≢ a) → Is (processAt (effect (CloseOf a) s) a .decided)
+    go : (x ≡ a) ⊎ (x ≢ a) → Is (hasDecided (processAt (effect (CloseOf a) s) a))
         → (closersOf (CloseOf a) s c x ≡ c x)
-        ⊎ ((CloseOf a ≡ CloseOf x) × (processAt (effect (CloseOf a) s) x .decided ≡ true) × (closersOf (CloseOf a) s c x ≡ true))
+        ⊎ ((CloseOf a ≡ CloseOf x) × (hasDecided (processAt (effect (CloseOf a) s) x) ≡ true) × (closersOf (CloseOf a) s c x ≡ true))
     go (inl e) (on d) = inr (rw e, rw e d, rw e (closers-decide s c a d))
     go (inl e) (off d) = inl (closers-open s c a d x)
     go (inr ne) d = inl (closers-there s c a x ne)
@@ -88,11 +88,11 @@ closers-tie (CrashOf a) s c x = inl refl
 closers-tie (SuspectOf a b) s c x = inl refl
 
 -- a closer has decided
-pub closer-decided : (s : Bench) (c : ℕ → Bool) → Basic (s .n) (s .t) (viewOf s c) → (x : ℕ) → c x ≡ true → processAt s x .decided ≡ true
+pub closer-decided : (s : Bench) (c : ℕ → Bool) → Basic (s .n) (s .t) (viewOf s c) → (x : ℕ) → c x ≡ true → hasDecided (processAt s x) ≡ true
 unfolding viewOf bit
-closer-decided s c B x e = go (is (processAt s x .decided))
+closer-decided s c B x e = go (is (hasDecided (processAt s x)))
   where
-    go : Is (processAt s x .decided) → processAt s x .decided ≡ true
+    go : Is (hasDecided (processAt s x)) → hasDecided (processAt s x) ≡ true
     go (on d) = d
     go (off d) = absurd (omega (arith, B .closed-is x d, ap bit e))
 
@@ -105,7 +105,7 @@ pub event-step : (s : Bench) (c : ℕ → Bool) (e : Event) → Sized s → soun
     → refuses e s ≡ 0
     → (c′ : ℕ → Bool)
     × Step (s .n) (s .t) (viewOf s c) (viewOf (effect e s) c′)
-    × ((x : ℕ) → (c′ x ≡ c x) ⊎ ((e ≡ CloseOf x) × (processAt (effect e s) x .decided ≡ true) × (c′ x ≡ true)))
+    × ((x : ℕ) → (c′ x ≡ c x) ⊎ ((e ≡ CloseOf x) × (hasDecided (processAt (effect e s) x) ≡ true) × (c′ x ≡ true)))
 event-step s c e Z h r B z = (closersOf e s c, step-from e _ _ _ _ (event-is s c e Z h r B z), closers-tie e s c)
 
 -- ---- the quiet end: no event but a crash would be accepted
@@ -183,7 +183,7 @@ module _ (s : Bench) (c : ℕ → Bool) (K : Bounds s)
       go y (inr (inl e)) = or-mk-l _ _ (has-arrived a (processAt s a) y ∙ or-mk-r _ _ (and-r _ _ (and-r _ _ e)))
       go y (inr (inr e)) = or-mk-r _ _ e
 
-  close-refused : (a : ℕ) → a < s .n → crashedAt s a ≡ false → processAt s a .decided ≡ false → 1 ≤ processAt s a .round
+  close-refused : (a : ℕ) → a < s .n → crashedAt s a ≡ false → hasDecided (processAt s a) ≡ false → 1 ≤ processAt s a .round
       → ((y : ℕ) → has (processAt s a .outbox) y ≡ false) → dueOf a (processAt s a) ≡ true → ⊥
   unfolding inRange valueFits isCrash actor possible ready allowed takesPart
   close-refused a h run d l none due =

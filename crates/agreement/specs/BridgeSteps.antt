@@ -12,8 +12,8 @@ use Rattle.sets.specs.Laws.{has-empty, has-insert, has-remove, has-difference, 
 use Rattle.sets.specs.Truth.{_&&_, _||_, same, below, choose, Is, on, off, is, choose-on, choose-off, and-l, and-r, and-mk, and-on-l, and-on-r, and-off-l, or-off-l, or-off-r, not-on, same-on, same-refl, same-off, below-mk, below-off, below-on, both-ways}
 use Rattle.global_data.specs.GlobalData.{oneOf}
 use Rattle.process.specs.declared.Process.{Process}
-use Rattle.process.specs.Steps.{openOf, startOf, receiveOf, keeps, decideOf, owedOf, adoptOf, takesPart, messageOf, sendOf, suspectOf}
-use Rattle.process.specs.Laws.{has-owed, adopt-on, adopt-off}
+use Rattle.process.specs.Steps.{hasDecided, openOf, startOf, receiveOf, keeps, decideOf, owedOf, adoptOf, takesPart, messageOf, sendOf, suspectOf}
+use Rattle.process.specs.Laws.{start-decided, decide-decided, send-decided, suspect-decided, has-owed, adopt-on, adopt-off}
 use Rattle.bench.specs.declared.Bench.{Bench}
 use Rattle.bench.specs.declared.Message.the-variants.{Estimate, Decision}
 use Rattle.bench.specs.declared.Event.the-variants.{Start as StartOf, Send as SendOf, Arrive as ArriveOf, Crash as CrashOf, Suspect as SuspectOf}
@@ -83,7 +83,7 @@ module _ (s : Bench) (c : ℕ → Bool) (Z : Sized s) (K : Bounds s) where
           transit = same-transit s _ c c (start-rest .1);
           received = λ r y. rw (P .here);
           suspected = λ y. rw (P .here);
-          decided = rw (P .here);
+          decided = rw (P .here) (start-decided (processAt s a) (s .n) a v);
           round = rw (P .here);
           closed = rw (P .here) (omega (arith, was));
           previous = λ y. rw (P .here) (has-all (s .n) y);
@@ -104,9 +104,9 @@ module _ (s : Bench) (c : ℕ → Bool) (Z : Sized s) (K : Bounds s) where
 
   message-low : (a : ℕ) → messageOf (processAt s a) < 17
   unfolding messageOf
-  message-low a = go (is (processAt s a .decided))
+  message-low a = go (is (hasDecided (processAt s a)))
     where
-      go : Is (processAt s a .decided) → choose (processAt s a .decided) 0 (processAt s a .round) < 17
+      go : Is (hasDecided (processAt s a)) → choose (hasDecided (processAt s a)) 0 (processAt s a .round) < 17
       go (on e) = rw (choose-on _ 0 (processAt s a .round) e) (omega arith)
       go (off e) = rw (choose-off _ 0 (processAt s a .round) e) (omega (arith, round-low s K a))
 
@@ -136,7 +136,7 @@ module _ (s : Bench) (c : ℕ → Bool) (Z : Sized s) (K : Bounds s) where
           owed = o;
           others = others-of s _ a _ P c c (λ x d. refl);
           calm = calm-of s _ a _ P c refl refl refl (λ w. refl);
-          decision = decision-of s _ a _ P c c refl refl;
+          decision = decision-of s _ a _ P c c (send-decided (processAt s a) b) refl;
           crashed = same-crashed s _ c c send-crashed;
           received = λ r y. rw (P .here);
           suspected = λ y. rw (P .here);
@@ -203,7 +203,7 @@ module _ (s : Bench) (c : ℕ → Bool) (Z : Sized s) (K : Bounds s) where
           fresh = f;
           others = others-of s _ a _ P c c (λ x d. refl);
           calm = calm-of s _ a _ P c refl refl refl (λ w. refl);
-          decision = decision-of s _ a _ P c c refl refl;
+          decision = decision-of s _ a _ P c c (suspect-decided (processAt s a) b) refl;
           crashed = same-crashed s _ c c (suspect-rest .0);
           transit = same-transit s _ c c (suspect-rest .1);
           received = λ r y. rw (P .here);
@@ -235,7 +235,7 @@ owed-has n a p y = has-owed a p y n ∙ and-assoc _ _ _
 -- the sets, the round and the decision stay
 record Hears (p p′ : Process) : Type 0 where
   round : p′ .round ≡ p .round
-  decided : p′ .decided ≡ p .decided
+  decided : hasDecided p′ ≡ hasDecided p
   previous : p′ .previous ≡ p .previous
   current : p′ .current ≡ p .current
   suspected : p′ .suspected ≡ p .suspected
@@ -246,7 +246,7 @@ hears-same : (p : Process) → Hears p p
 hears-same p = record { round = refl; decided = refl; previous = refl; current = refl; suspected = refl; outbox = refl; estimate = refl }
 
 receive-hears : (y r : ℕ) (p : Process) → Hears p (receiveOf y r p)
-unfolding receiveOf
+unfolding receiveOf hasDecided
 receive-hears y r p =
     choose-by (Hears p) (keeps p y r) _ p
     (record { round = refl; decided = refl; previous = refl; current = refl; suspected = refl; outbox = refl; estimate = refl })
@@ -390,7 +390,7 @@ module _ (s : Bench) (c : ℕ → Bool) (Z : Sized s) (K : Bounds s) where
               arrive-of _ a 0 b _ P h h′ ne (omega arith) run w (told-rest .0) (told-rest .1) refl
               (calm-of s _ b _ P c refl refl refl (λ u. absurd (omega (arith, B .closed-is b (not-on _ (and-r _ _ e))))));
           taken-here = taken-decision s c b ∙ e;
-          decided = rw (P .here);
+          decided = rw (P .here) (decide-decided (processAt s b) _ _);
           estimate = λ k. rw (P .here);
           value = λ k. rw (P .here);
           received = λ m y. rw (P .here);

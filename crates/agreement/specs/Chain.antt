@@ -8,7 +8,7 @@ use native.Mathlib.Omega.{arith}
 use Rattle.sets.specs.Truth.{_||_, same, choose, Is, on, off, is, clash, choose-on, choose-off, or-mk-l, or-mk-r, or-off-l, or-none-l, or-none-r, or-cases, eq-or}
 use Rattle.global_data.specs.GlobalData.{value, orElse}
 use Rattle.process.specs.declared.Process.{Process}
-use Rattle.process.specs.Steps.{closeOf}
+use Rattle.process.specs.Steps.{hasDecided, closeOf}
 use Rattle.bench.specs.declared.Bench.{Bench}
 use Rattle.bench.specs.declared.Message.the-variants.{Estimate, Decision}
 use Rattle.bench.specs.declared.Event.{Event}
@@ -32,7 +32,7 @@ effect-sizes (Arrive a b (Estimate r)) s = (refl, refl)
 effect-sizes (Arrive a b Decision) s = (refl, refl)
 effect-sizes (Close a) s = go (closeOf (s .n) (s .t) a (rowsAt s (processAt s a .round)) (processAt s a)) (is _)
   where
-    go : (p : Process) → Is (p .decided) → (closesAs s a p .n ≡ s .n) × (closesAs s a p .t ≡ s .t)
+    go : (p : Process) → Is (hasDecided p) → (closesAs s a p .n ≡ s .n) × (closesAs s a p .t ≡ s .t)
     go p (on d) = rw d (refl, refl)
     go p (off d) = rw d (refl, refl)
 effect-sizes (Crash a) s = (refl, refl)

@@ -7,6 +7,7 @@ use mathlib.Core.Logic.{_⊎_, inl, inr}
 use Prim.Native.Nat.{ℕ, _<_}
 use Rattle.sets.specs.Set.{has}
 use Rattle.sets.specs.Truth.{Is, on, off, is, clash, or-mk-l}
+use Rattle.process.specs.Steps.{hasDecided}
 use Rattle.bench.specs.declared.Event.{Event}
 use Rattle.bench.specs.State.{processAt, crashedAt, openedOf}
 use Rattle.agreement.specs.History.{over, reached, isDecided, outcome, beforeFrom, beforeDecision, crashedIn}
@@ -24,23 +25,23 @@ use Rattle.agreement.specs.Told.{Told}
 pub record First (n t : ℕ) (h : List Event) : Type 0 where
   pub who : ℕ
   pub low : who < n
-  pub decided : processAt (reached n t h) who .decided ≡ true
+  pub decided : hasDecided (processAt (reached n t h) who) ≡ true
   pub absence : (k : ℕ) → k < n → has (processAt (reached n t h) who .estimate .present) k ≡ false → crashedIn (beforeDecision n t h) k ≡ true
 
 -- there is one as soon as any process has decided
 abbrev pub Decided : ℕ → ℕ → List Event → Type 0
-Decided n t h = (x : ℕ) → x < n → processAt (reached n t h) x .decided ≡ true → First n t h
+Decided n t h = (x : ℕ) → x < n → hasDecided (processAt (reached n t h) x) ≡ true → First n t h
 
 pub first-opened : (n t : ℕ) → Decided n t []
 unfolding reached over viewOf
 first-opened n t x l d = clash _ d (opened-view n t .decided x)
 
 -- what the history says of a decision
-pub decided-is : (n t : ℕ) (h : List Event) → Told n t h → (x : ℕ) → isDecided (outcome n t h x) ≡ processAt (reached n t h) x .decided
+pub decided-is : (n t : ℕ) (h : List Event) → Told n t h → (x : ℕ) → isDecided (outcome n t h x) ≡ hasDecided (processAt (reached n t h) x)
 unfolding isDecided
-decided-is n t h T x = go (is (processAt (reached n t h) x .decided))
+decided-is n t h T x = go (is (hasDecided (processAt (reached n t h) x)))
   where
-    go : Is (processAt (reached n t h) x .decided) → isDecided (outcome n t h x) ≡ processAt (reached n t h) x .decided
+    go : Is (hasDecided (processAt (reached n t h) x)) → isDecided (outcome n t h x) ≡ hasDecided (processAt (reached n t h) x)
     go (on d) = ap isDecided (T .outcome-is x ∙ decision-on _ d) ∙ sym d
     go (off d) = ap isDecided (T .outcome-is x ∙ decision-off _ d) ∙ sym d
 
@@ -60,7 +61,7 @@ module _ (n t : ℕ) (h : List Event) (e : Event) (N : Next n t h e) (A : Along 
       }
 
   -- none had: the one that has now decided at a close
-  first-new : ((x : ℕ) → x < n → processAt (reached n t h) x .decided ≡ false) → Decided n t (h ++ (e ∷ []))
+  first-new : ((x : ℕ) → x < n → hasDecided (processAt (reached n t h) x) ≡ false) → Decided n t (h ++ (e ∷ []))
   unfolding viewOf beforeDecision outcome openedOf
   first-new none x l d = record { who = x; low = l; decided = d; absence = λ k kn z. crashed-before k (go k kn z (is (crashedAt (reached n t h) k))) }
     where
@@ -75,8 +76,8 @@ module _ (n t : ℕ) (h : List Event) (e : Event) (N : Next n t h e) (A : Along 
           rw (before-none (openedOf n t) h (e ∷ []) (λ y b. decided-is n t h T y ∙ none y b), crashed-append) (or-mk-l _ _ c)
 
   pub first-next : Decided n t h → Decided n t (h ++ (e ∷ []))
-  first-next D x l d = go (least-or n (λ y. processAt (reached n t h) y .decided) (λ y. 0))
+  first-next D x l d = go (least-or n (λ y. hasDecided (processAt (reached n t h) y)) (λ y. 0))
     where
-      go : Least n (λ y. processAt (reached n t h) y .decided) (λ y. 0) ⊎ ((y : ℕ) → y < n → processAt (reached n t h) y .decided ≡ false) → First n t (h ++ (e ∷ []))
+      go : Least n (λ y. hasDecided (processAt (reached n t h) y)) (λ y. 0) ⊎ ((y : ℕ) → y < n → hasDecided (processAt (reached n t h) y) ≡ false) → First n t (h ++ (e ∷ []))
       go (inl L) = first-kept (D (L .at) (L .low) (L .passes))
       go (inr none) = first-new none x l d

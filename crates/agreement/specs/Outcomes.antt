@@ -13,7 +13,8 @@ use Rattle.sets.specs.Truth.{_&&_, _||_, same, choose, Is, on, off, is, choose-
 use Rattle.global_data.specs.declared.GlobalData.{GlobalData}
 use Rattle.global_data.specs.GlobalData.{absent, value}
 use Rattle.process.specs.declared.Process.{Process}
-use Rattle.process.specs.Steps.{takesPart, openOf, startOf, keeps, receiveOf, decidesOf, decideOf, advanceOf, closeOf, adoptOf, sendOf, suspectOf}
+use Rattle.process.specs.Steps.{hasDecided, takesPart, openOf, startOf, keeps, receiveOf, decidesOf, decideOf, advanceOf, closeOf, adoptOf, sendOf, suspectOf}
+use Rattle.process.specs.Laws.{start-decided, decide-decided, send-decided, suspect-decided, receive-decided, advance-decided}
 use Rattle.bench.specs.declared.Bench.{Bench}
 use Rattle.bench.specs.declared.Message.the-variants.{Estimate, Decision}
 use Rattle.bench.specs.declared.Event.{Event}
@@ -40,7 +41,7 @@ turned (Suspect a b) s = suspectOf b (processAt s a)
 -- closing, deciding or not, changes the process alone
 closes-process : (s : Bench) (a x : ℕ) (p : Process) → processAt (closesAs s a p) x ≡ processAt (withProcess s a p) x
 unfolding closesAs opensRound withSent processAt choose
-closes-process s a x p = go (p .decided)
+closes-process s a x p = go (hasDecided p)
   where
     go : (d : Bool) → processAt (choose d (withProcess s a p) (opensRound s a p)) x ≡ processAt (withProcess s a p) x
     go true = refl
@@ -69,32 +70,32 @@ turned-there (Suspect a b) s x ne = process-there s a x _ ne
 -- ---- outcomes
 -- what a process holds of its decision
 unfoldable pub decisionOf : Process → Outcome
-decisionOf p = choose (p .decided) (decidedOn (p .estimate)) undecided
+decisionOf p = choose (hasDecided p) (decidedOn (p .estimate)) undecided
 
-decision-same : (p q : Process) → q .decided ≡ p .decided → q .estimate ≡ p .estimate → decisionOf q ≡ firstOf (decisionOf p) undecided
+decision-same : (p q : Process) → hasDecided q ≡ hasDecided p → q .estimate ≡ p .estimate → decisionOf q ≡ firstOf (decisionOf p) undecided
 unfolding decisionOf
 decision-same p q d e = rw (d, e) (sym (first-none _))
 
-pub decision-off : (p : Process) → p .decided ≡ false → decisionOf p ≡ undecided
+pub decision-off : (p : Process) → hasDecided p ≡ false → decisionOf p ≡ undecided
 unfolding decisionOf
 decision-off p d = choose-off _ _ _ d
 
-pub decision-on : (p : Process) → p .decided ≡ true → decisionOf p ≡ decidedOn (p .estimate)
+pub decision-on : (p : Process) → hasDecided p ≡ true → decisionOf p ≡ decidedOn (p .estimate)
 unfolding decisionOf
 decision-on p d = choose-on _ _ _ d
 
-pub decision-got : (p : Process) (g : GlobalData) → decisionOf p ≡ decidedOn g → (p .decided ≡ true) × (p .estimate ≡ g)
-decision-got p g e = go (is (p .decided))
+pub decision-got : (p : Process) (g : GlobalData) → decisionOf p ≡ decidedOn g → (hasDecided p ≡ true) × (p .estimate ≡ g)
+decision-got p g e = go (is (hasDecided p))
   where
-    go : Is (p .decided) → (p .decided ≡ true) × (p .estimate ≡ g)
+    go : Is (hasDecided p) → (hasDecided p ≡ true) × (p .estimate ≡ g)
     go (on d) = let f = decision-on p d in (d, cc)
     go (off d) = let f = decision-off p d in absurd (let z : _≡_ {A = ℕ} 0 1 = cc in omega arith)
 
-pub decision-none : (p : Process) → decisionOf p ≡ undecided → p .decided ≡ false
+pub decision-none : (p : Process) → decisionOf p ≡ undecided → hasDecided p ≡ false
 decision-none p e = off-by _ (λ d. let f = decision-on p d in let z : _≡_ {A = ℕ} 0 1 = cc in omega arith)
 
 -- an undecided process comes to q, which holds the decision o
-decision-new : (p q : Process) (o : Outcome) → p .decided ≡ false → decisionOf q ≡ o → decisionOf q ≡ firstOf (decisionOf p) o
+decision-new : (p q : Process) (o : Outcome) → hasDecided p ≡ false → decisionOf q ≡ o → decisionOf q ≡ firstOf (decisionOf p) o
 unfolding firstOf
 decision-new p q o d e = rw (decision-off p d) e
 
@@ -110,13 +111,13 @@ decides-there (Crash a) s x ne = refl
 decides-there (Suspect a b) s x ne = refl
 
 -- by the test d a process p comes to q, which has decided on g, or to one that holds the same decision as p
-decision-choice : (d : Bool) (b : ℕ) (p q q′ : Process) (g : GlobalData) → (d ≡ true → p .decided ≡ false) → decisionOf q ≡ decidedOn g
+decision-choice : (d : Bool) (b : ℕ) (p q q′ : Process) (g : GlobalData) → (d ≡ true → hasDecided p ≡ false) → decisionOf q ≡ decidedOn g
     → decisionOf q′ ≡ decisionOf p → decisionOf (choose d q q′) ≡ firstOf (decisionOf p) (choose (same b b && d) (decidedOn g) undecided)
 unfolding choose
 decision-choice true b p q q′ g u e f = rw (and-on-l _ true (same-refl b)) (decision-new p q (decidedOn g) (u refl) e)
 decision-choice false b p q q′ g u e f = rw (and-on-l _ false (same-refl b)) (f ∙ sym (first-none _))
 
-takes-undecided : (p : Process) → takesPart p ≡ true → p .decided ≡ false
+takes-undecided : (p : Process) → takesPart p ≡ true → hasDecided p ≡ false
 unfolding takesPart
 takes-undecided p e = not-on _ (and-r _ _ e)
 
@@ -125,24 +126,26 @@ unfolding takesPart
 takes-started p e z = omega (arith, below-on 0 (p .round) (and-l _ _ e))
 
 -- a start is of an undecided process, which `started` says
-decision-turned : (e : Event) (s : Bench) → Passes e s → (processAt s (actor e) .round ≡ 0 → processAt s (actor e) .decided ≡ false)
+decision-turned : (e : Event) (s : Bench) → Passes e s → (processAt s (actor e) .round ≡ 0 → hasDecided (processAt s (actor e)) ≡ false)
     → decisionOf (turned e s) ≡ firstOf (decisionOf (processAt s (actor e))) (decidesAt e s (actor e))
-unfolding turned actor decidesAt possible startOf openOf sendOf suspectOf receiveOf adoptOf closeOf decideOf advanceOf
+unfolding turned actor decidesAt possible sendOf suspectOf receiveOf adoptOf closeOf decideOf
 decision-turned (Start a v) s A started =
     let d = started (same-on _ 0 (A .is-possible)) in
-    decision-new (processAt s a) (startOf (s .n) a v (processAt s a)) undecided d (decision-off _ d)
-decision-turned (Send a b) s A started = decision-same (processAt s a) (sendOf b (processAt s a)) refl refl
+    decision-new (processAt s a) (startOf (s .n) a v (processAt s a)) undecided d
+    (decision-off _ (start-decided (processAt s a) (s .n) a v ∙ d))
+decision-turned (Send a b) s A started = decision-same (processAt s a) (sendOf b (processAt s a)) (send-decided (processAt s a) b) refl
 decision-turned (Arrive a b (Estimate r)) s A started =
-    choose-by (λ (q : Process). decisionOf q ≡ firstOf (decisionOf (processAt s b)) undecided) (keeps (processAt s b) a r) _ _
-    (decision-same (processAt s b) _ refl refl) (decision-same (processAt s b) _ refl refl)
+    decision-same (processAt s b) _ (receive-decided (processAt s b) a r)
+    (choose-by (λ (q : Process). q .estimate ≡ processAt s b .estimate) (keeps (processAt s b) a r) _ _ refl refl)
 decision-turned (Arrive a b Decision) s A started =
-    decision-choice (takesPart (processAt s b)) b (processAt s b) _ _ _ (takes-undecided (processAt s b)) (decision-on _ refl) refl
+    decision-choice (takesPart (processAt s b)) b (processAt s b) _ _ _ (takes-undecided (processAt s b)) (decision-on _ (decide-decided (processAt s b) _ _)) refl
 decision-turned (Close a) s A started =
     let p = processAt s a in
     let d = takes-undecided p (and-l _ _ (A .is-possible)) in
-    decision-choice (decidesOf (s .n) (s .t) a (rowsAt s (p .round)) p) a p _ _ _ (λ w. d) (decision-on _ refl) (decision-off _ d ∙ sym (decision-off p d))
+    decision-choice (decidesOf (s .n) (s .t) a (rowsAt s (p .round)) p) a p _ _ _ (λ w. d)
+    (decision-on _ (decide-decided p _ _)) (decision-off _ (advance-decided p a (rowsAt s (p .round)) ∙ d) ∙ sym (decision-off p d))
 decision-turned (Crash a) s A started = decision-same (processAt s a) (processAt s a) refl refl
-decision-turned (Suspect a b) s A started = decision-same (processAt s a) (suspectOf b (processAt s a)) refl refl
+decision-turned (Suspect a b) s A started = decision-same (processAt s a) (suspectOf b (processAt s a)) (suspect-decided (processAt s a) b) refl
 
 -- ---- rounds
 opens-there : (e : Event) (s : Bench) (x : ℕ) → x ≢ actor e → opensRounds e s x ≡ 0
@@ -220,7 +223,7 @@ module _ (e : Event) (s : Bench) (z : length (s .processes) ≡ 16) (low : actor
       go (inl w) = rw (w, turned-here e s z low) here
       go (inr w) = rw (turned-there e s x w) (there x w)
 
-  pub decision-effect : (processAt s (actor e) .round ≡ 0 → processAt s (actor e) .decided ≡ false)
+  pub decision-effect : (processAt s (actor e) .round ≡ 0 → hasDecided (processAt s (actor e)) ≡ false)
       → (x : ℕ) → decisionOf (processAt (effect e s) x) ≡ firstOf (decisionOf (processAt s x)) (decidesAt e s x)
   decision-effect started =
       turned-at (λ x p. decisionOf p ≡ firstOf (decisionOf (processAt s x)) (decidesAt e s x)) (decision-turned e s A started)

@@ -7,6 +7,7 @@ use native.Mathlib.Omega.{arith}
 use lib.ListN.{length, drop}
 use Rattle.sets.specs.Each.{each}
 use Rattle.sets.specs.Truth.{same, choose-on, choose-off, and-mk, same-mk, same-off, below-mk, below-off}
+use Rattle.process.specs.Steps.{hasDecided}
 use Rattle.bench.specs.declared.Bench.{Bench}
 use Rattle.bench.specs.declared.Shown.the-variants.{Marks, Refused}
 use Rattle.bench.specs.State.{processAt}
@@ -21,15 +22,15 @@ module _ (s : Bench) (x : ℕ) (out : List ℕ) (sound : soundOf s ≡ true) (lo
   number = omega arith
 
   -- only the last check is left
-  last-check : showRefusal s (suc x) out ≡ check (processAt s x .decided) 11 0
+  last-check : showRefusal s (suc x) out ≡ check (hasDecided (processAt s x)) 11 0
   unfolding showRefusal isProcess
   last-check =
       check-on _ 2 _ sound
       ∙ check-on _ 5 _ (and-mk _ _ (below-mk 0 (suc x) (omega arith)) (below-mk (suc x) (s .n + 1) (omega arith)))
       ∙ check-on _ 10 _ (ap not (below-off (length out) (s .n) room))
-      ∙ ap (λ (y : ℕ). check (processAt s y .decided) 11 0) number
+      ∙ ap (λ (y : ℕ). check (hasDecided (processAt s y)) 11 0) number
 
-  pub shows-decided : processAt s x .decided ≡ true
+  pub shows-decided : hasDecided (processAt s x) ≡ true
       → (showOf s (suc x) out ≡ Marks (processAt s x .estimate .present))
       × (shownIn s (suc x) out ≡ each (s .n) (wordAt (processAt s x .estimate)) ++ drop (s .n) out)
   unfolding showOf shownIn
@@ -39,7 +40,7 @@ module _ (s : Bench) (x : ℕ) (out : List ℕ) (sound : soundOf s ≡ true) (lo
         choose-on _ _ _ z ∙ ap (λ (y : ℕ). each (s .n) (wordAt (processAt s y .estimate)) ++ drop (s .n) out) number,
       )
 
-  pub hides-undecided : processAt s x .decided ≡ false → (showOf s (suc x) out ≡ Refused (refused 11)) × (shownIn s (suc x) out ≡ out)
+  pub hides-undecided : hasDecided (processAt s x) ≡ false → (showOf s (suc x) out ≡ Refused (refused 11)) × (shownIn s (suc x) out ≡ out)
   unfolding showOf shownIn
   hides-undecided d =
       let e : showRefusal s (suc x) out ≡ 11 = last-check ∙ check-off _ 11 0 d in

@@ -15,6 +15,7 @@ use Rattle.sets.specs.Truth.{below, Is, on, off, is}
 use Rattle.global_data.specs.declared.GlobalData.{GlobalData}
 use Rattle.global_data.specs.GlobalData.{absent, value, entryOf, sameTo}
 use Rattle.global_data.specs.Laws.{entry-present, entry-absent, value-present, absent-clear, same-mk}
+use Rattle.process.specs.Steps.{hasDecided}
 use Rattle.bench.specs.declared.Shown.the-variants.{Marks, Refused}
 use Rattle.bench.specs.declared.Event.{Event}
 use Rattle.bench.specs.State.{processAt, crashedAt}
@@ -70,14 +71,14 @@ entry-same g g′ k e f = go (is (has (g .present) k))
 module _ (n t : ℕ) (h : List Event) (A : Account n t h) where
   -- what x decided on is what it holds
   holds : (x : ℕ) (g : GlobalData) → outcome n t h x ≡ decidedOn g
-      → (processAt (reached n t h) x .decided ≡ true) × (processAt (reached n t h) x .estimate ≡ g)
+      → (hasDecided (processAt (reached n t h) x) ≡ true) × (processAt (reached n t h) x .estimate ≡ g)
   holds x g e = decision-got _ g (sym (A .told .outcome-is x) ∙ e)
 
   good : Good n t (viewOf (reached n t h) (A .along-it .closers))
   good = A .along-it .fit .good
 
   -- two that have decided agree on every entry
-  same-entry : (x y k : ℕ) → k < n → processAt (reached n t h) x .decided ≡ true → processAt (reached n t h) y .decided ≡ true
+  same-entry : (x y k : ℕ) → k < n → hasDecided (processAt (reached n t h) x) ≡ true → hasDecided (processAt (reached n t h) y) ≡ true
       → entryOf (processAt (reached n t h) x .estimate) k ≡ entryOf (processAt (reached n t h) y .estimate) k
   unfolding viewOf
   same-entry x y k l d d′ =

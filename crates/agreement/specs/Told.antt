@@ -11,6 +11,7 @@ use Rattle.sets.specs.Laws.{size-empty}
 use Rattle.sets.specs.Truth.{_||_, choose-on, same-refl, off-by, or-off-r, le-or}
 use Rattle.global_data.specs.GlobalData.{Entry, absent, value}
 use Rattle.global_data.specs.Laws.{orElse-absent, orElse-value}
+use Rattle.process.specs.Steps.{hasDecided}
 use Rattle.bench.specs.declared.Bench.{Bench}
 use Rattle.bench.specs.declared.Event.{Event}
 use Rattle.bench.specs.declared.Event.the-variants.{Start, Send, Arrive, Close, Crash, Suspect}
@@ -78,7 +79,7 @@ module _ (n t : ℕ) (h : List Event) (e : Event) (N : Next n t h e) (A : Along 
   low : actor e < 16
   low = omega (arith, range-actor n t e (N .range), sound-on (reached n t h) (N .sound) .few, reached-sizes n t h .0)
 
-  undecided-first : processAt (reached n t h) (actor e) .round ≡ 0 → processAt (reached n t h) (actor e) .decided ≡ false
+  undecided-first : processAt (reached n t h) (actor e) .round ≡ 0 → hasDecided (processAt (reached n t h) (actor e)) ≡ false
   unfolding viewOf
   undecided-first z = off-by _ (λ d. omega (arith, A .fit .good .basic .decided-started (actor e) d))
 

@@ -7,6 +7,7 @@ use native.Mathlib.Omega.{arith}
 use lib.ListN.{length, drop}
 use Rattle.sets.specs.Each.{each}
 use Rattle.sets.specs.Truth.{same, below, choose, choose-on, choose-off, same-mk, same-off, below-mk, below-off}
+use Rattle.process.specs.Steps.{hasDecided}
 use Rattle.bench.specs.declared.Bench.{Bench}
 use Rattle.bench.specs.declared.Shown.{Shown}
 use Rattle.bench.specs.declared.Shown.the-variants.{Marks, Refused as RefusedShow}
@@ -51,14 +52,14 @@ module _ (s : Bench) (x : ℕ) (out : List ℕ) where
       show-short h = check-on _ _ _ e ∙ check-on _ _ _ i ∙ check-off _ _ _ (short (length out) (s .n) h)
 
       module _ (h : s .n ≤ length out) where
-        decision : showRefusal s x out ≡ check (processAt s (x - 1) .decided) 11 0
+        decision : showRefusal s x out ≡ check (hasDecided (processAt s (x - 1))) 11 0
         unfolding showRefusal
         decision = check-on _ _ _ e ∙ check-on _ _ _ i ∙ check-on _ _ _ (long (length out) (s .n) h)
 
-        pub show-undecided : processAt s (x - 1) .decided ≡ false → showRefusal s x out ≡ 11
+        pub show-undecided : hasDecided (processAt s (x - 1)) ≡ false → showRefusal s x out ≡ 11
         show-undecided d = decision ∙ check-off _ _ _ d
 
-        pub show-decided : processAt s (x - 1) .decided ≡ true → showRefusal s x out ≡ 0
+        pub show-decided : hasDecided (processAt s (x - 1)) ≡ true → showRefusal s x out ≡ 0
         show-decided d = decision ∙ check-on _ _ _ d
 
   pub show-refused : (k : ℕ) → showRefusal s x out ≡ suc k

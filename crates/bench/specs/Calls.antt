@@ -9,6 +9,7 @@ use Rattle.sets.specs.Truth.{_&&_, same, below, choose}
 use Rattle.global_data.specs.declared.GlobalData.{GlobalData}
 use Rattle.global_data.specs.GlobalData.{Entry, absent, value, entryOf, noData}
 use Rattle.process.specs.declared.Process.{Process}
+use Rattle.process.specs.Steps.{hasDecided}
 use Rattle.bench.specs.declared.Bench.{Bench}
 use Rattle.bench.specs.declared.Refusal.{Refusal}
 use Rattle.bench.specs.declared.Answer.{Answer}
@@ -106,7 +107,7 @@ unfoldable pub showRefusal : Bench → ℕ → List ℕ → ℕ
 showRefusal s x out =
     check (soundOf s) 2
     (check (isProcess (s .n) x) 5
-    (check (not (below (length out) (s .n))) 10 (check (processAt s (x - 1) .decided) 11 0)))
+    (check (not (below (length out) (s .n))) 10 (check (hasDecided (processAt s (x - 1))) 11 0)))
 
 unfoldable pub showOf : Bench → ℕ → List ℕ → Shown
 showOf s x out =

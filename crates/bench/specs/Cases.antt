@@ -9,7 +9,7 @@ use Rattle.sets.specs.Every.{every as everyBelow}
 use Rattle.sets.specs.Set.{has, insertOf, removeOf, unionOf, intersectionOf, differenceOf, allOf, sizeOf}
 use Rattle.sets.specs.Truth.{_&&_, _||_, same, below, choose}
 use Rattle.global_data.specs.GlobalData.{Entry, absent, value, entryOf, sameEntry, nothingOf, oneOf, filledWord, fillOf, fillFrom, sameTo, allSame}
-use Rattle.process.specs.Steps.{idleOf, takesPart, openOf, startOf, keeps, receiveOf, arrivedOf, dueOf, nextOf, peersOf, filledOf, agreedOf, decidesOf, owedOf, decideOf, advanceOf, closeOf, adoptOf, messageOf, sendOf, suspectOf}
+use Rattle.process.specs.Steps.{hasDecided, idleOf, takesPart, openOf, startOf, keeps, receiveOf, arrivedOf, dueOf, nextOf, peersOf, filledOf, agreedOf, decidesOf, owedOf, decideOf, advanceOf, closeOf, adoptOf, messageOf, sendOf, suspectOf}
 use Rattle.process.specs.declared.Process.{Process}
 use Rattle.bench.specs.declared.Bench.{Bench}
 use Rattle.bench.specs.State.{processAt, sentAt, transitAt, crashedAt, withProcess, withSent, withTransit, withCrashed, openedOf}
@@ -93,7 +93,7 @@ sameLine s l =
     let p = processAt s (pred (l .process)) in
     same (p .round) (l .round)
     && (sameBool (crashedAt s (pred (l .process))) (l .crashed)
-    && (sameBool (p .decided) (l .decided) && (same (p .current) (l .current) && sameEntries 0 p (l .entries))))
+    && (sameBool (hasDecided p) (l .decided) && (same (p .current) (l .current) && sameEntries 0 p (l .entries))))
 
 pub passes : Case → Bool
 passes c =
@@ -222,7 +222,7 @@ unfolding bytes start send arrive close crash suspect answersOf endOf sameBool s
     round3 noRefusal allThree case1 case2 case3 case4and6 sizes case7 case8 case9 table
     has insertOf removeOf unionOf intersectionOf differenceOf allOf sizeOf ones _&&_ _||_ same below choose
     entryOf sameEntry each everyBelow nothingOf oneOf filledWord fillOf fillFrom sameTo allSame
-    idleOf takesPart openOf startOf keeps receiveOf arrivedOf dueOf nextOf peersOf filledOf agreedOf decidesOf owedOf decideOf advanceOf closeOf adoptOf messageOf sendOf suspectOf
+    idleOf hasDecided takesPart openOf startOf keeps receiveOf arrivedOf dueOf nextOf peersOf filledOf agreedOf decidesOf owedOf decideOf advanceOf closeOf adoptOf messageOf sendOf suspectOf
     processAt sentAt transitAt crashedAt withProcess withSent withTransit withCrashed openedOf opens every within soundData soundProcess soundOf
     wordOf isProcess usesB usesR usesValue fieldB fieldR fieldValue fields messageFrom eventOf partsOf decodeOf check numberOf actor possible ready allowed refuses refusesDecoded refusal
     opensRound rowsAt sends arrives closesAs effect effectDecoded effectOf after

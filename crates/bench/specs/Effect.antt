@@ -6,7 +6,7 @@ use Rattle.sets.specs.Set.{insertOf, removeOf}
 use Rattle.sets.specs.Truth.{choose}
 use Rattle.global_data.specs.declared.GlobalData.{GlobalData}
 use Rattle.process.specs.declared.Process.{Process}
-use Rattle.process.specs.Steps.{startOf, receiveOf, closeOf, adoptOf, messageOf, sendOf, suspectOf}
+use Rattle.process.specs.Steps.{hasDecided, startOf, receiveOf, closeOf, adoptOf, messageOf, sendOf, suspectOf}
 use Rattle.bench.specs.declared.Bench.{Bench}
 use Rattle.bench.specs.declared.Message.{Message}
 use Rattle.bench.specs.declared.Message.the-variants.{Estimate, Decision}
@@ -34,7 +34,7 @@ arrives s a r b = withTransit s a r (removeOf (transitAt s a r) b)
 
 -- a has closed its round as p, which has decided or opened the next one
 unfoldable pub closesAs : Bench → ℕ → Process → Bench
-closesAs s a p = choose (p .decided) (withProcess s a p) (opensRound s a p)
+closesAs s a p = choose (hasDecided p) (withProcess s a p) (opensRound s a p)
 
 unfoldable pub effect : Event → Bench → Bench
 -- steps 1 and 2

@@ -13,7 +13,7 @@ use Rattle.sets.specs.Truth.{_&&_, Is, on, off, is, clash, choose-on, choose-of
 use Rattle.global_data.specs.declared.GlobalData.{GlobalData}
 use Rattle.global_data.specs.GlobalData.{noData, nothingOf}
 use Rattle.process.specs.declared.Process.{Process}
-use Rattle.process.specs.Steps.{noProcess, idleOf, receiveOf, adoptOf, sendOf}
+use Rattle.process.specs.Steps.{hasDecided, noProcess, idleOf, receiveOf, adoptOf, sendOf}
 use Rattle.process.specs.Laws.{Within, within-idle, within-start, within-send, within-receive, within-adopt, within-close, within-suspect}
 use Rattle.bench.specs.declared.Bench.{Bench}
 use Rattle.bench.specs.declared.Message.the-variants.{Estimate, Decision}
@@ -255,11 +255,11 @@ arrives-low s b a r y = with-transit s b a r _ (remove-lt (s .n) (transitAt s a 
 
 closes-low : (s : Bench) → Bounds s → (a : ℕ) (p : Process) → Within (s .n) (s .t) p → Bounds (closesAs s a p)
 unfolding closesAs
-closes-low s b a p h = go (is (p .decided))
+closes-low s b a p h = go (is (hasDecided p))
   where
-    go : Is (p .decided) → Bounds (closesAs s a p)
-    go (on e) = rw (choose-on (p .decided) _ (opensRound s a p) e) (with-process s b a p h)
-    go (off e) = rw (choose-off (p .decided) (withProcess s a p) _ e) (opens-low s b a p h)
+    go : Is (hasDecided p) → Bounds (closesAs s a p)
+    go (on e) = rw (choose-on (hasDecided p) _ (opensRound s a p) e) (with-process s b a p h)
+    go (off e) = rw (choose-off (hasDecided p) (withProcess s a p) _ e) (opens-low s b a p h)
 
 rows-low : (s : Bench) → Bounds s → (r y : ℕ) → rowsAt s r y .present < 2 ^ s .n
 unfolding rowsAt
@@ -289,11 +289,11 @@ pub record SameSizes (s s′ : Bench) : Type 0 where
 
 closes-sizes : (s : Bench) (a : ℕ) (p : Process) → SameSizes s (closesAs s a p)
 unfolding closesAs opensRound withProcess withSent
-closes-sizes s a p = go (is (p .decided))
+closes-sizes s a p = go (is (hasDecided p))
   where
-    go : Is (p .decided) → SameSizes s (closesAs s a p)
-    go (on e) = rw (choose-on (p .decided) _ (opensRound s a p) e) (record { n = refl; t = refl })
-    go (off e) = rw (choose-off (p .decided) (withProcess s a p) _ e) (record { n = refl; t = refl })
+    go : Is (hasDecided p) → SameSizes s (closesAs s a p)
+    go (on e) = rw (choose-on (hasDecided p) _ (opensRound s a p) e) (record { n = refl; t = refl })
+    go (off e) = rw (choose-off (hasDecided p) (withProcess s a p) _ e) (record { n = refl; t = refl })
 
 pub effect-sizes : (e : Event) (s : Bench) → SameSizes s (effect e s)
 unfolding effect opensRound sends arrives withProcess withSent withTransit withCrashed

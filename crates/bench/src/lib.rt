@@ -1,13 +1,9 @@
 // A bench of processes, their network and their failure detector, stepped by records.
-pub mod list;
 mod open;
-mod record;
-pub mod show;
-pub mod sound;
 
 use global_data::GlobalData;
+pub use open::sizes_open;
 use process::Process;
-pub use record::decode;
 
 // A message: an estimate with its round, or a decision. Its global data is kept in the bench.
 pub enum Message {

@@ -1,14 +1,21 @@
-// Opening a bench, and its limits.
+// Opening a bench, its limits, and refusal 1.
 use crate::Answer;
 use crate::Bench;
 use crate::Opened;
 use crate::Refusal;
-use crate::sound::sizes_open;
 use global_data::GlobalData;
 use process::Process;
 ghost use mathlib.Core.Path.{_≡_};
 ghost use Rattle.bench.specs.State.{openedOf};
+ghost use Rattle.bench.specs.Sound.{opens};
 ghost use Rattle.bench.specs.Calls.{openOf};
+
+// n is 1 to 16, and t below n.
+pub fn sizes_open(n: u8, t: u8) -> bool
+    ensures { λ r. ⌜ r ≡ opens n t ⌝ }
+{
+    (0 < n) & ((n < 17) & (t < n))
+}
 
 impl Bench {
     // The largest n.

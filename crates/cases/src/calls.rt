@@ -8,10 +8,10 @@ use bench::Bench;
 use bench::Cause;
 use bench::Listed;
 use bench::Shown;
-use bench::list::in_transit;
-use bench::show::global_data;
+use decision::global_data;
 use one_record::step_bytes;
-use schedule::run::run_bytes;
+use run::run_bytes;
+use transit::in_transit;
 
 pub fn say(name: &[u8], part: &[u8], number: u64) {
     io::write_all(1, name);

@@ -12,7 +12,7 @@ use crate::schedules::three;
 use crate::schedules::twelve;
 use bench::Bench;
 use bench::Shown;
-use bench::show::global_data;
+use decision::global_data;
 use process::Process;
 
 fn flag(b: bool) -> u64 {
@@ -22,7 +22,7 @@ fn flag(b: bool) -> u64 {
 // A process at the end: its round, whether it has decided, and its current set, as bits.
 fn say_process(name: &[u8], p: Process) {
     say(name, b".round", p.round as u64);
-    say(name, b".decided", flag(p.decided));
+    say(name, b".decided", flag(p.has_decided()));
     say(name, b".current", p.current as u64);
 }
 

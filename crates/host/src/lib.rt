@@ -6,7 +6,7 @@ use bench::Counters;
 use bench::Stepped;
 use one_record::step_counted;
 use one_record::tail;
-use schedule::run::run_bytes;
+use run::run_bytes;
 ghost use mathlib.Core.Path.{_≡_};
 ghost use lib.ListN.{drop};
 ghost use Rattle.bench.specs.Calls.{runOf, stepOf, tallyOf};

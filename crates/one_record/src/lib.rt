@@ -6,7 +6,7 @@ use bench::Cause;
 use bench::Counters;
 use bench::Refusal;
 use bench::Stepped;
-use schedule::run::run_bytes;
+use run::run_bytes;
 ghost use mathlib.Core.Path.{_≡_};
 ghost use lib.ListN.{drop};
 ghost use Rattle.bench.specs.Calls.{more, stepOf};

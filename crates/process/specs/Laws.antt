@@ -17,7 +17,7 @@ use Rattle.global_data.specs.declared.GlobalData.{GlobalData}
 use Rattle.global_data.specs.GlobalData.{nothingOf, oneOf, sameTo, allSame}
 use Rattle.global_data.specs.Laws.{fillFrom-lt}
 use Rattle.process.specs.declared.Process.{Process}
-use Rattle.process.specs.Steps.{idleOf, takesPart, openOf, startOf, keeps, receiveOf, arrivedOf, dueOf, nextOf, peersOf, filledOf, agreedOf, decidesOf, owedOf, decideOf, advanceOf, closeOf, adoptOf, sendOf, suspectOf}
+use Rattle.process.specs.Steps.{idleOf, hasDecided, takesPart, openOf, startOf, keeps, receiveOf, arrivedOf, dueOf, nextOf, peersOf, filledOf, agreedOf, decidesOf, owedOf, decideOf, advanceOf, closeOf, adoptOf, sendOf, suspectOf}
 
 -- ---- a step by cases
 -- what holds of both holds of the chosen one
@@ -127,6 +127,36 @@ module _ (n a k : ℕ) (g : GlobalData) (p : Process) where
   adopt-by : (P : Process → Type 0) → P (decideOf g (removeOf (owedOf n a p) k) p) → P p → P (adoptOf n a k g p)
   unfolding adoptOf
   adopt-by P x y = choose-by P _ _ _ (λ e. x) (λ e. y)
+
+-- ---- who has decided: step 6 says so, whatever the byte was, and no other step changes it
+module _ (p : Process) where
+  pub decide-decided : (g : GlobalData) (m : ℕ) → hasDecided (decideOf g m p) ≡ true
+  unfolding hasDecided decideOf same
+  decide-decided g m = refl
+
+  pub open-decided : (a : ℕ) → hasDecided (openOf a p) ≡ hasDecided p
+  unfolding hasDecided openOf
+  open-decided a = refl
+
+  pub start-decided : (n a v : ℕ) → hasDecided (startOf n a v p) ≡ hasDecided p
+  unfolding hasDecided startOf openOf
+  start-decided n a v = refl
+
+  pub advance-decided : (a : ℕ) (rows : ℕ → GlobalData) → hasDecided (advanceOf a rows p) ≡ hasDecided p
+  unfolding hasDecided advanceOf openOf
+  advance-decided a rows = refl
+
+  pub send-decided : (b : ℕ) → hasDecided (sendOf b p) ≡ hasDecided p
+  unfolding hasDecided sendOf
+  send-decided b = refl
+
+  pub suspect-decided : (b : ℕ) → hasDecided (suspectOf b p) ≡ hasDecided p
+  unfolding hasDecided suspectOf
+  suspect-decided b = refl
+
+  pub receive-decided : (y r : ℕ) → hasDecided (receiveOf y r p) ≡ hasDecided p
+  unfolding hasDecided receiveOf
+  receive-decided y r = choose-by (λ (q : Process). hasDecided q ≡ hasDecided p) _ _ _ (λ e. refl) (λ e. refl)
 
 -- ---- who is in which set
 module _ (a : ℕ) (p : Process) (y : ℕ) where

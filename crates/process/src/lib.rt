@@ -292,7 +292,11 @@ impl Process {
     pub fn message(self) -> usize
         ensures { λ r. ⌜ r ≡ messageOf self ⌝ }
     {
-        if self.has_decided() { 0 } else { self.round as usize }
+        if self.has_decided() {
+            0
+        } else {
+            self.round as usize
+        }
     }
 
     // It has sent b what it owed.

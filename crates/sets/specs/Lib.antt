@@ -3,4 +3,5 @@ pub mod Each
 pub mod Every
 pub mod Laws
 pub mod Set
+pub mod Tests
 pub mod Truth

@@ -6,6 +6,7 @@ use Rattle.sets.specs.Count.{bit}
 use Rattle.sets.specs.Truth.{below, choose}
 use Rattle.global_data.specs.GlobalData.{Entry, absent, value, entryOf}
 use Rattle.process.specs.declared.Process.{Process}
+use Rattle.process.specs.Steps.{hasDecided}
 use Rattle.bench.specs.declared.Bench.{Bench}
 use Rattle.bench.specs.State.{processAt, crashedAt}
 use Rattle.bench.specs.Calls.{joined}
@@ -43,7 +44,7 @@ processText n a crashed p =
     ++ (field (a + 1)
     ++ (field (p .round)
     ++ (field (bit crashed)
-    ++ (field (bit (p .decided)) ++ (joined n (λ k. entryText (entryOf (p .estimate) k)) ++ newline)))))
+    ++ (field (bit (hasDecided p)) ++ (joined n (λ k. entryText (entryOf (p .estimate) k)) ++ newline)))))
 
 unfoldable pub processesText : Bench → List ℕ
 processesText s = joined (s .n) (λ a. processText (s .n) a (crashedAt s a) (processAt s a))

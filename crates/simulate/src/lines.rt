@@ -2,7 +2,7 @@
 use crate::text::put_line;
 use bench::Bench;
 use bench::Cause;
-use schedule::run::run_bytes;
+use run::run_bytes;
 ghost use mathlib.Core.Path.{_≡_};
 ghost use mathlib.Core.List.{_++_};
 ghost use Prim.Native.Nat.{_+_, _*_, _^_, _≤_, _<_};

@@ -53,11 +53,12 @@ fn put_process(out: &mut [u8], at: usize, n: u8, a: u8, crashed: bool, p: Proces
     ensures { λ r. ⌜ Puts 222 (now (out .entry)) at (processText n a crashed p) (now (out .exit)) r ⌝ }
 {
     let g = p.estimate;
+    let done = p.has_decided();
     let letter = put_byte(out, at, 84);
     let number = put_field(out, letter, a as u32 + 1);
     let round = put_field(out, number, p.round as u32);
     let crash = put_field(out, round, flag(crashed));
-    let decided = put_field(out, crash, flag(p.decided));
+    let decided = put_field(out, crash, flag(done));
     let entries = put_entries(out, decided, n, g);
     put_byte(out, entries, 10)
 }

@@ -53,10 +53,10 @@ use Rattle.bench.proofs.Ended as ended
 use Rattle.bench.proofs.Ended.Laws as ended-laws
 use Rattle.host.proofs.Ran as ran
 use Rattle.host.proofs.Ran.Laws as ran-laws
-use Rattle.schedule.proofs.run.run_bytes as bytes
-use Rattle.schedule.proofs.run.run_bytes.Symbol as bytes-symbol
-use Rattle.schedule.proofs.run.run_bytes.Symbol.{name as #run-bytes}
-use Rattle.schedule.proofs.run.run_bytes.Met as bytes-met
+use Rattle.run.proofs.run_bytes as bytes
+use Rattle.run.proofs.run_bytes.Symbol as bytes-symbol
+use Rattle.run.proofs.run_bytes.Symbol.{name as #run-bytes}
+use Rattle.run.proofs.run_bytes.Met as bytes-met
 use Rattle.one_record.proofs.tail as tail
 use Rattle.one_record.proofs.tail.Symbol as tail-symbol
 use Rattle.one_record.proofs.tail.Symbol.{name as #tail}
@@ -284,5 +284,5 @@ run-spec 𝓤 H 𝓜 𝓖 𝓡 =
     entered 𝓤 H (tripleOf 𝓤 H (𝓖 .A) this.signature (this.spec 𝓤 H (𝓖 .A) (𝓜 .mem) (𝓡 .run)))
     (𝓣 .C) (𝓣 .Λ) #run code.function (code.unfolded 𝓤 H 𝓜 𝓡)
     (meets 𝓤 H (𝓖 .A) (givenOf 𝓤 H 𝓜 𝓖) (𝓜 .mem) (𝓡 .run) (tablesOf 𝓤 H 𝓜 𝓣)
-    (cited 𝓤 H (Bytes 𝓤 H (𝓖 .A) (𝓜 .mem) (𝓡 .run)) 𝓜 𝓡 code.env #run-bytes bytes-symbol.routine code.calls-schedule·run·run-bytes (bytes-met.met 𝓤 H 𝓜 𝓖 𝓡))
+    (cited 𝓤 H (Bytes 𝓤 H (𝓖 .A) (𝓜 .mem) (𝓡 .run)) 𝓜 𝓡 code.env #run-bytes bytes-symbol.routine code.calls-run·run-bytes (bytes-met.met 𝓤 H 𝓜 𝓖 𝓡))
     (cited 𝓤 H (Tail 𝓤 H (𝓖 .A) (𝓜 .mem) (𝓡 .run)) 𝓜 𝓡 code.env #tail tail-symbol.routine code.calls-one-record·tail (tail-met.met 𝓤 H 𝓜 𝓖 𝓡)))

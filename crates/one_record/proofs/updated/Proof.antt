@@ -3,7 +3,7 @@ use mathlib.Core.Path.{_≡_, refl}
 use mathlib.Core.Bool as core
 use Rattle.sets.specs.Truth.{_&&_}
 use Rattle.one_record.specs.StepLaws.{tallied}
-use Rattle.bench.proofs.Tests.{both}
+use Rattle.sets.specs.Tests.{both}
 use borrow.Author.Needs.{needs}
 use Rattle.one_record.proofs.updated.Statement.{statement}
 use Rattle.one_record.proofs.updated.Tie as tie

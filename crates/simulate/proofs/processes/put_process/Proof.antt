@@ -6,6 +6,9 @@ use Rattle.simulate.specs.TextLaws.{stores-then}
 use Rattle.simulate.proofs.processes.put_process.Statement.{statement}
 use Rattle.simulate.proofs.processes.put_process.Tie as tie
 
+has-decided-requires : tie.Need-has-decided-requires
+has-decided-requires c κs = search needs
+
 put-byte-requires : tie.Need-put-byte-requires
 put-byte-requires c κs = search needs
 
@@ -81,7 +84,7 @@ returns c =
           (stores-then (number .ensures .stores)
           (stores-then (round .ensures .stores)
           (stores-then (rw (c .before .before .before .before .before .before .before .before .before .before .before .before .before .before .before .before .flag .ensures) at (crash .ensures .stores))
-          (stores-then (rw (c .before .before .before .before .before .before .before .before .before .before .before .flag2 .ensures) at (decided .ensures .stores))
+          (stores-then (rw (c .before .before .before .before .before .before .before .before .before .before .before .flag2 .ensures, c .before .before .before .before .before .before .before .before .before .before .before .before .before .before .before .before .before .before .before .before .before .before .before .before .before .before .before .before .before .before .has-decided .ensures) at (decided .ensures .stores))
           (stores-then (entries .ensures .stores) (end .ensures))))));
       short =
           omega (
@@ -101,6 +104,7 @@ pub put-process-spec : {M : Type 1} → statement M
 put-process-spec =
     tie.close
     (tie.spec
+    has-decided-requires
     put-byte-requires
     add-put-field
     put-field-requires

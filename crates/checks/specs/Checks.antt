@@ -1,0 +1,50 @@
+-- Checks 6 to 9 of an event on the parts of the bench that it looks at, and its effect on them, as the code of `run` has them.
+-- Each is the definition with its parts named, so it holds by unfolding.
+use mathlib.Core.Path.{_≡_, refl}
+use mathlib.Core.Bool.{Bool, true, false, not}
+use Prim.Native.Nat.{ℕ, _≤_}
+use Rattle.sets.specs.Set.{has, sizeOf, emptySet}
+use Rattle.sets.specs.Truth.{_&&_, same, below, choose, and-l, below-on}
+use Rattle.global_data.specs.declared.GlobalData.{GlobalData}
+use Rattle.process.specs.declared.Process.{Process}
+use Rattle.process.specs.Steps.{hasDecided, takesPart, dueOf, receiveOf, adoptOf}
+use Rattle.bench.specs.declared.Message.{Message}
+use Rattle.bench.specs.declared.Message.the-variants.{Estimate, Decision}
+use Rattle.bench.specs.Refuse.{check, possible, ready, allowed}
+
+-- the number of the first check that fails, or 0
+unfoldable pub firstOf : Bool → Bool → Bool → Bool → ℕ
+firstOf crashed possible ready allowed = check (not crashed) 6 (check possible 7 (check ready 8 (check allowed 9 0)))
+
+-- a start of a, in that round
+unfoldable pub startCheck : ℕ → ℕ → ℕ → ℕ
+startCheck crashed a round = firstOf (has crashed a) (same round 0) true true
+
+-- a acts on a message for b: b is in the set m of those to whom it is owed, or is on its way
+unfoldable pub messageCheck : ℕ → ℕ → ℕ → ℕ → ℕ
+messageCheck crashed a m b = firstOf (has crashed a) (has m b) true true
+
+unfoldable pub closeCheck : ℕ → ℕ → Process → ℕ
+closeCheck crashed a p = firstOf (has crashed a) (takesPart p && same (p .outbox) emptySet) (dueOf a p) true
+
+unfoldable pub crashCheck : ℕ → ℕ → ℕ → ℕ
+crashCheck crashed a t = firstOf (has crashed a) true true (below (sizeOf crashed) t)
+
+-- a, which suspects those in m, is to suspect b
+unfoldable pub suspectCheck : ℕ → ℕ → ℕ → ℕ → ℕ
+suspectCheck crashed a m b = firstOf (has crashed a) (has crashed b && not (has m b)) true true
+
+-- process b, once a message of a has arrived; g is what a decided on
+unfoldable pub arrivedAs : ℕ → ℕ → ℕ → Message → GlobalData → Process → Process
+arrivedAs n b a (Estimate r) g p = receiveOf a r p
+arrivedAs n b a Decision g p = adoptOf n b a g p
+
+-- what is impossible is so whatever is checked after it
+pub first-impossible : (crashed ready allowed : Bool) → firstOf crashed false ready allowed ≡ firstOf crashed false false true
+unfolding firstOf check choose
+first-impossible crashed ready allowed = refl
+
+-- a process that takes part has started
+pub takes-started : (p : Process) → takesPart p ≡ true → 1 ≤ p .round
+unfolding takesPart
+takes-started p e = below-on 0 (p .round) (and-l (below 0 (p .round)) (not (hasDecided p)) e)

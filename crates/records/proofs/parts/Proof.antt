@@ -1,0 +1,71 @@
+-- By kind: each that is known goes to `known`, and refusal 4 is the rest.
+use mathlib.Core.Path.{sym}
+use mathlib.Core.Logic.{⊎-elim}
+use native.Mathlib.Omega.{arith}
+use Rattle.sets.specs.Truth.{and-off-l, and-off-r, below-off, le-or}
+use Rattle.bench.specs.RecordLaws.{isKind, kind-on, parts-unknown}
+use Rattle.records.proofs.parts.Statement.{statement}
+use Rattle.records.proofs.parts.Tie as tie
+
+known-requires : tie.Need-known-requires
+known-requires c κs = kind-on 1 (omega arith) (omega arith)
+
+known-requires-2 : tie.Need-known-requires-2
+known-requires-2 c κs = kind-on 2 (omega arith) (omega arith)
+
+known-requires-3 : tie.Need-known-requires-3
+known-requires-3 c κs = kind-on 3 (omega arith) (omega arith)
+
+known-requires-4 : tie.Need-known-requires-4
+known-requires-4 c κs = kind-on 4 (omega arith) (omega arith)
+
+known-requires-5 : tie.Need-known-requires-5
+known-requires-5 c κs = kind-on 5 (omega arith) (omega arith)
+
+known-requires-6 : tie.Need-known-requires-6
+known-requires-6 c κs = kind-on 6 (omega arith) (omega arith)
+
+returns : tie.Need-returns
+returns c = rw (c .before .match .keys1) (c .known .ensures)
+
+returns-2 : tie.Need-returns-2
+returns-2 c = rw (c .before .match .keys2) (c .known2 .ensures)
+
+returns-3 : tie.Need-returns-3
+returns-3 c = rw (c .before .match .keys3) (c .known3 .ensures)
+
+returns-4 : tie.Need-returns-4
+returns-4 c = rw (c .before .match .keys4) (c .known4 .ensures)
+
+returns-5 : tie.Need-returns-5
+returns-5 c = rw (c .before .match .keys5) (c .known5 .ensures)
+
+returns-6 : tie.Need-returns-6
+returns-6 c = rw (c .before .match .keys6) (c .known6 .ensures)
+
+returns-7 : tie.Need-returns-7
+unfolding isKind
+returns-7 c =
+    let k = c .before .args .kind in
+    let r = c .match .rest in
+    sym (parts-unknown _ _ _ _ _ _ _
+    (⊎-elim (λ h. and-off-r _ _ (below-off _ _ h))
+    (λ h. and-off-l _ _ (below-off _ _ (omega (arith, r .0 .0 .0 .0 .0 .1, r .0 .0 .0 .0 .1, r .0 .0 .0 .1, r .0 .0 .1, r .0 .1, r .1)))) (le-or 7 k)))
+
+pub parts-spec : {M : Type 1} → statement M
+parts-spec =
+    tie.close
+    (tie.spec
+    known-requires
+    known-requires-2
+    known-requires-3
+    known-requires-4
+    known-requires-5
+    known-requires-6
+    returns
+    returns-2
+    returns-3
+    returns-4
+    returns-5
+    returns-6
+    returns-7)

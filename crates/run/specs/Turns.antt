@@ -1,0 +1,324 @@
+-- One turn of run's loop, as its code takes it: what is known at the loop's head, what each way of a turn comes to, and each event's check
+-- and effect on the parts that it changes. A turn is one of the four laws of run; the rest is the definitions with their parts named.
+use mathlib.Core.Path.{_≡_, refl, sym, ap, ap₂, _∙_}
+use mathlib.Core.Logic.{_≢_}
+use mathlib.Core.List.{List, [], _∷_}
+use mathlib.Core.Bool.{true, false}
+use Prim.Native.Nat.{ℕ, zero, suc, _+_, _-_, _*_, _≤_, _<_}
+use native.Mathlib.Nat.{add-zero}
+use native.Mathlib.Omega.{arith}
+use lib.ListN.{length, getD, set, take, drop, length-take, length-drop}
+use lib.Seq.{drop-drop}
+use Rattle.sets.specs.Each.{each, getD-each}
+use Rattle.sets.specs.Every.{every}
+use Rattle.sets.specs.Set.{has, insertOf}
+use Rattle.sets.specs.Truth.{_&&_, choose, and-l, Is, on, off, is, clash, choose-on, choose-off, or-none-l, same-not}
+use Rattle.global_data.specs.declared.GlobalData.{GlobalData}
+use Rattle.global_data.specs.GlobalData.{noData, fillOf, fillFrom, sameTo, allSame, rowsOf}
+use Rattle.process.specs.declared.Process.{Process}
+use Rattle.process.specs.Laws.{decide-decided}
+use Rattle.process.specs.Steps.{hasDecided, noProcess, openOf, startOf, peersOf, filledOf, agreedOf, decidesOf, decideOf, advanceOf, closeOf, messageOf}
+use Rattle.bench.specs.declared.Bench.{Bench}
+use Rattle.bench.specs.declared.Refusal.{Refusal}
+use Rattle.bench.specs.declared.Message.{Message}
+use Rattle.bench.specs.declared.Message.the-variants.{Estimate, Decision}
+use Rattle.bench.specs.declared.Event.{Event}
+use Rattle.bench.specs.declared.Event.the-variants.{Start, Send, Arrive, Close, Crash, Suspect}
+use Rattle.bench.specs.declared.Decoded.{Decoded}
+use Rattle.bench.specs.declared.Decoded.the-variants.{Got, Refused}
+use Rattle.bench.specs.declared.Cause.the-variants.{Empty, Spent, Refused as RefusedRun}
+use Rattle.bench.specs.State.{processAt, sentAt, transitAt, crashedAt, withProcess, withSent, withCrashed}
+use Rattle.bench.specs.Sound.{soundOf}
+use Rattle.bench.specs.SoundLaws.{Bounds, sound-on, sound-step}
+use Rattle.bench.specs.Record.{decodeOf}
+use Rattle.bench.specs.RecordLaws.{messageIn, inRange, decode-size, decode-refused, decode-range}
+use Rattle.bench.specs.Refuse.{numberOf, actor, possible, ready, allowed, refuses, refusal}
+use Rattle.bench.specs.RefuseLaws.{check-zero, refusal-unread, refusal-event, accepted-effect}
+use Rattle.bench.specs.Effect.{opensRound, rowsAt, arrives, closesAs, effect, effectDecoded, effectOf}
+use Rattle.bench.specs.Calls.{refused, endedOf, runFrom, runOf}
+use Rattle.bench.specs.RunLaws.{run-empty, run-spent, run-refused, run-accepted, run-sound}
+use Rattle.checks.specs.Checks.{firstOf, startCheck, messageCheck, closeCheck, crashCheck, suspectCheck, arrivedAs, takes-started}
+
+-- ---- the loop's head: of the schedule l, `at` bytes are taken in `accepted` records, from b to s
+pub record Running (budget : ℕ) (l : List ℕ) (b s : Bench) (at accepted : ℕ) : Type 0 where
+  pub sound : soundOf s ≡ true
+  pub within-bytes : at ≤ length l
+  pub within-budget : accepted ≤ budget
+  pub gives : runFrom (budget - accepted) (drop at l) s accepted at ≡ runOf budget l b
+
+pub running-new : (budget : ℕ) (l : List ℕ) (b : Bench) → soundOf b ≡ true → Running budget l b b 0 0
+running-new budget l b e =
+    record {
+      sound = e;
+      within-bytes = omega arith;
+      within-budget = omega arith;
+      gives = let z : budget - 0 ≡ budget = omega arith in rw (run-sound budget l b e, z);
+    }
+
+-- a turn in which the event e was decoded
+pub record Turn (budget : ℕ) (l : List ℕ) (b s : Bench) (at accepted : ℕ) (d : Decoded) : Type 0 where
+  pub running : Running budget l b s at accepted
+  pub left : accepted ≢ budget
+  pub whole : at + 8 ≤ length l
+  pub decoded : decodeOf (s .n) (s .t) (take (at + 8 - at) (drop at l)) ≡ d
+
+module _ (budget : ℕ) (l : List ℕ) (b s : Bench) (at accepted : ℕ) where
+  some-left : at < length l → length (drop at l) ≢ 0
+  some-left h e = omega (arith, length-drop at l)
+
+  pub ends-empty : Running budget l b s at accepted → length l ≤ at → endedOf s accepted Empty at ≡ runOf budget l b
+  ends-empty w h =
+      sym (run-empty (drop at l) s accepted at (budget - accepted) (omega (arith, length-drop at l))) ∙ w .gives
+
+  pub ends-spent : Running budget l b s at accepted → at < length l → accepted ≡ budget
+      → endedOf s accepted Spent at ≡ runOf budget l b
+  ends-spent w h e =
+      sym (run-spent (drop at l) s accepted at (budget - accepted) (some-left h) (omega arith)) ∙ w .gives
+
+  -- refused, by the number of the next record
+  ends-refused : Running budget l b s at accepted → at < length l → accepted ≢ budget → (k : ℕ) → refusal s (take 8 (drop at l)) ≡ k
+      → k ≢ 0 → endedOf s accepted (RefusedRun (refused k)) at ≡ runOf budget l b
+  ends-refused w h f k e z =
+      sym (run-refused (drop at l) s accepted at (budget - accepted) (some-left h) (λ u. f (omega (arith, w .within-budget))) (rw e z)
+      ∙ ap (λ k. endedOf s accepted (RefusedRun (refused k)) at) e) ∙ w .gives
+
+  -- fewer than 8 bytes are left
+  pub ends-short : Running budget l b s at accepted → at < length l → accepted ≢ budget → length l - at < 8
+      → endedOf s accepted (RefusedRun (refused 3)) at ≡ runOf budget l b
+  ends-short w h f g =
+      let r : Refusal = record { number = 3 } in
+      ends-refused w h f 3
+      (refusal-unread s (take 8 (drop at l)) (w .sound) r
+      (decode-size (s .n) (s .t) (take 8 (drop at l)) (λ e. omega (arith, length-take 8 (drop at l), length-drop at l))))
+      (omega arith)
+
+  -- the next 8 bytes, as the code takes them
+  next : (d : Decoded) → Turn budget l b s at accepted d → decodeOf (s .n) (s .t) (take 8 (drop at l)) ≡ d
+  next d w = let e : at + 8 - at ≡ 8 = omega arith in rw e at (w .decoded)
+
+  pub ends-unread : (r : Refusal) → Turn budget l b s at accepted (Refused r) → endedOf s accepted (RefusedRun r) at ≡ runOf budget l b
+  ends-unread r w =
+      ends-refused (w .running) (omega (arith, w .whole)) (w .left) (r .number)
+      (refusal-unread s (take 8 (drop at l)) (w .running .sound) r (next (Refused r) w))
+      (decode-refused (s .n) (s .t) (take 8 (drop at l)) r (next (Refused r) w))
+
+  -- k is what the code's check of the event e gives
+  pub ends-by : (e : Event) → Turn budget l b s at accepted (Got e) → (k : ℕ) → k ≡ refuses e s → k ≢ 0
+      → endedOf s accepted (RefusedRun (refused k)) at ≡ runOf budget l b
+  ends-by e w k p z =
+      ends-refused (w .running) (omega (arith, w .whole)) (w .left) k
+      (refusal-event s (take 8 (drop at l)) (w .running .sound) e (next (Got e) w) ∙ sym p) z
+
+  -- it is accepted, and d is the bench that the code makes
+  pub goes : (e : Event) → Turn budget l b s at accepted (Got e) → (k : ℕ) → k ≡ refuses e s → k ≡ 0 → (d : Bench) → d ≡ effect e s
+      → Running budget l b d (at + 8) (accepted + 1)
+  unfolding effectOf effectDecoded
+  goes e w k p z d q =
+      let v = w .running in
+      let bytes = take 8 (drop at l) in
+      let o : refusal s bytes ≡ 0 = refusal-event s bytes (v .sound) e (next (Got e) w) ∙ sym p ∙ z in
+      let f : effectOf s bytes ≡ d = rw (next (Got e) w) (sym q) in
+      let one : budget - accepted - 1 ≡ budget - (accepted + 1) = omega arith in
+      record {
+        sound = rw (← f, ← accepted-effect s bytes o) (sound-step s bytes (v .sound));
+        within-bytes = w .whole;
+        within-budget = omega (arith, w .left, v .within-budget);
+        gives =
+            rw (← drop-drop 8 at l, ← one, ← f)
+            (sym (run-accepted (drop at l) s accepted at (budget - accepted) (some-left (omega (arith, w .whole)))
+            (λ u. w .left (omega (arith, v .within-budget))) o) ∙ v .gives);
+      }
+
+-- ---- indices: what an event of a sound bench names is below 16, and a message's number is at most 16
+unfoldable pub Low : Event → Type 0
+Low (Start a v) = a < 16
+Low (Send a b) = (a < 16) × (b < 16)
+Low (Arrive a b m) = (a < 16) × (b < 16) × messageIn 15 m
+Low (Close a) = a < 16
+Low (Crash a) = a < 16
+Low (Suspect a b) = (a < 16) × (b < 16)
+
+low-in : (n t : ℕ) → n < 17 → t < n → (e : Event) → inRange n t e → Low e
+unfolding inRange messageIn Low
+low-in n t p q (Start a v) h = omega arith
+low-in n t p q (Send a b) h = (omega (arith, h .first), omega (arith, h .second))
+low-in n t p q (Arrive a b (Estimate r)) h = (omega (arith, h .0 .first), omega (arith, h .0 .second), (h .1 .0, omega (arith, h .1 .1)))
+low-in n t p q (Arrive a b Decision) h = (omega (arith, h .0 .first), omega (arith, h .0 .second), tt)
+low-in n t p q (Close a) h = omega arith
+low-in n t p q (Crash a) h = omega arith
+low-in n t p q (Suspect a b) h = (omega (arith, h .first), omega (arith, h .second))
+
+module _ {budget : ℕ} {l : List ℕ} {b s : Bench} {at accepted : ℕ} {d : Decoded} (w : Turn budget l b s at accepted d) where
+  pub turn-bounds : Bounds s
+  turn-bounds = sound-on s (w .running .sound)
+
+  -- the code's sizes and rounds
+  pub turn-sizes : (s .n ≤ 16) × (s .t < 16)
+  turn-sizes = (omega (arith, turn-bounds .few), omega (arith, turn-bounds .few, turn-bounds .limit))
+
+  pub turn-round : (a : ℕ) → getD (s .processes) a noProcess .round ≤ s .t + 1
+  turn-round a = omega (arith, turn-bounds .process a .round)
+
+  pub turn-less : length l - (at + 8) < length l - at
+  turn-less = omega (arith, w .whole)
+
+  pub turn-low : (e : Event) → d ≡ Got e → Low e
+  turn-low e p =
+      low-in (s .n) (s .t) (turn-bounds .few) (turn-bounds .limit) e
+      (decode-range (s .n) (s .t) (take (at + 8 - at) (drop at l)) e (w .decoded ∙ p))
+
+pub number-low : (m : Message) → messageIn 15 m → numberOf m ≤ 16
+unfolding messageIn numberOf
+number-low (Estimate r) h = h .1
+number-low Decision h = omega arith
+
+pub message-low : (p : Process) → p .round ≤ 16 → messageOf p ≤ 16
+unfolding messageOf
+message-low p h = go (is (hasDecided p))
+  where
+    go : Is (hasDecided p) → choose (hasDecided p) 0 (p .round) ≤ 16
+    go (on e) = rw (choose-on (hasDecided p) 0 (p .round) e) (omega arith)
+    go (off e) = rw (choose-off (hasDecided p) 0 (p .round) e) h
+
+-- ---- a close looks at the rows of the sixteen processes alone
+module _ (f g : ℕ → GlobalData) (h : (k : ℕ) → k < 16 → f k ≡ g k) where
+  fill-rows : (p m : ℕ) (e : GlobalData) → p ≤ 16 → fillFrom p m f e ≡ fillFrom p m g e
+  unfolding fillFrom
+  fill-rows zero m e l = refl
+  fill-rows (suc p) m e l =
+      let i = fill-rows p m e (omega arith) in
+      ap₂ (choose (has m p)) (ap₂ fillOf i (h p (omega arith))) i
+
+  every-rows : (p n m : ℕ) (e : GlobalData) → p ≤ 16
+      → every p (λ q. choose (has m q) (sameTo n (f q) e) true) ≡ every p (λ q. choose (has m q) (sameTo n (g q) e) true)
+  unfolding every
+  every-rows zero n m e l = refl
+  every-rows (suc p) n m e l =
+      ap₂ _&&_ (ap (λ x. choose (has m p) (sameTo n x e) true) (h p (omega arith))) (every-rows p n m e (omega arith))
+
+  pub close-rows : (n t a : ℕ) (p : Process) → closeOf n t a f p ≡ closeOf n t a g p
+  unfolding closeOf decidesOf agreedOf filledOf allSame advanceOf
+  close-rows n t a p =
+      simp (fill-rows 16 (peersOf a p) (p .estimate) (omega arith), every-rows 16 n (peersOf a p) (fillFrom 16 (peersOf a p) g (p .estimate)) (omega arith))
+
+-- a close that does not decide opens the next round, which is not past the last
+module _ (n t a : ℕ) (rows : ℕ → GlobalData) (p : Process) where
+  pub close-opens : hasDecided (closeOf n t a rows p) ≡ false → (closeOf n t a rows p .round ≡ p .round + 1) × (p .round ≢ t + 1)
+  unfolding closeOf advanceOf openOf decidesOf
+  close-opens e = go (is (decidesOf n t a rows p))
+    where
+      go : Is (decidesOf n t a rows p) → (closeOf n t a rows p .round ≡ p .round + 1) × (p .round ≢ t + 1)
+      go (on d) = clash _ (decide-decided p _ _) (rw (choose-on (decidesOf n t a rows p) _ (advanceOf a rows p) d) at e)
+      go (off d) = (rw (choose-off (decidesOf n t a rows p) _ (advanceOf a rows p) d), same-not _ _ (or-none-l _ _ d))
+
+-- a start opens round 1
+pub start-round : (n a v : ℕ) (p : Process) → startOf n a v p .round ≡ 1
+unfolding startOf openOf
+start-round n a v p = refl
+
+-- a close that is let through is of a process that has started
+pub close-started : (crashed a : ℕ) (p : Process) → closeCheck crashed a p ≡ 0 → 1 ≤ p .round
+unfolding closeCheck firstOf
+close-started crashed a p z =
+    let c = check-zero _ 6 _ (omega arith) z in
+    let q = check-zero _ 7 _ (omega arith) (c .1) in
+    takes-started p (and-l _ _ (q .0))
+
+-- ---- each event's check, and its effect, on the parts of the bench
+module _ (s : Bench) where
+  pub refuses-start : (a v : ℕ) → refuses (Start a v) s ≡ startCheck (s .crashed) a (processAt s a .round)
+  unfolding refuses actor possible ready allowed crashedAt startCheck firstOf
+  refuses-start a v = refl
+
+  pub refuses-send : (a b : ℕ) → refuses (Send a b) s ≡ messageCheck (s .crashed) a (processAt s a .outbox) b
+  unfolding refuses actor possible ready allowed crashedAt messageCheck firstOf
+  refuses-send a b = refl
+
+  pub refuses-arrive : (a b : ℕ) (m : Message) → refuses (Arrive a b m) s ≡ messageCheck (s .crashed) b (transitAt s a (numberOf m)) b
+  unfolding refuses actor possible ready allowed crashedAt messageCheck firstOf
+  refuses-arrive a b m = refl
+
+  pub refuses-close : (a : ℕ) → refuses (Close a) s ≡ closeCheck (s .crashed) a (processAt s a)
+  unfolding refuses actor possible ready allowed crashedAt closeCheck firstOf
+  refuses-close a = refl
+
+  pub refuses-crash : (a : ℕ) → refuses (Crash a) s ≡ crashCheck (s .crashed) a (s .t)
+  unfolding refuses actor possible ready allowed crashedAt crashCheck firstOf
+  refuses-crash a = refl
+
+  pub refuses-suspect : (a b : ℕ) → refuses (Suspect a b) s ≡ suspectCheck (s .crashed) a (processAt s a .suspected) b
+  unfolding refuses actor possible ready allowed crashedAt suspectCheck firstOf
+  refuses-suspect a b = refl
+
+  -- a crash; m is the code's set
+  pub effect-crash : (a m : ℕ) → m ≡ insertOf (s .crashed) a
+      → record { n = s .n; t = s .t; crashed = m; processes = s .processes; sent = s .sent; in_transit = s .in_transit } ≡ effect (Crash a) s
+  unfolding effect withCrashed
+  effect-crash a m e = rw e
+
+  -- a has opened a round as p; i is the code's index of that round
+  abbrev pub openedAt : ℕ → ℕ → Process → Bench
+  openedAt a i p =
+      record {
+        n = s .n;
+        t = s .t;
+        crashed = s .crashed;
+        processes = set (s .processes) a p;
+        sent = set (s .sent) (a * 16 + i) (p .estimate);
+        in_transit = s .in_transit;
+      }
+
+  opened-at : (a i : ℕ) (p : Process) → i ≡ p .round - 1 → openedAt a i p ≡ opensRound s a p
+  unfolding opensRound withProcess withSent
+  opened-at a i p e = rw e
+
+  pub effect-start : (a v i : ℕ) (p : Process) → i ≡ p .round - 1 → p ≡ startOf (s .n) a v (processAt s a)
+      → openedAt a i p ≡ effect (Start a v) s
+  unfolding effect
+  effect-start a v i p e h = opened-at a i p e ∙ ap (opensRound s a) h
+
+  pub effect-arrive : (a b : ℕ) (m : Message) → effect (Arrive a b m) s
+      ≡ arrives (withProcess s b (arrivedAs (s .n) b a m (processAt s a .estimate) (processAt s b))) a (numberOf m) b
+  unfolding effect arrivedAs numberOf
+  effect-arrive a b (Estimate r) = refl
+  effect-arrive a b Decision = refl
+
+-- the rows of round r + 1, as the code gathers them
+abbrev othersIn : List GlobalData → ℕ → List GlobalData
+othersIn sent r =
+    let row : ℕ → GlobalData = λ i. getD sent i noData in
+    row (r + 16) ∷ row (r + 32) ∷ row (r + 48) ∷ row (r + 64) ∷ row (r + 80) ∷ row (r + 96) ∷ row (r + 112) ∷ row (r + 128)
+    ∷ row (r + 144) ∷ row (r + 160) ∷ row (r + 176) ∷ row (r + 192) ∷ row (r + 208) ∷ row (r + 224) ∷ row (r + 240) ∷ []
+
+abbrev pub rowsIn : List GlobalData → ℕ → List GlobalData
+rowsIn sent r = getD sent r noData ∷ othersIn sent r
+
+rows-each : (sent : List GlobalData) (r : ℕ) → rowsIn sent r ≡ each 16 (λ k. getD sent (r + k * 16) noData)
+unfolding each
+rows-each sent r = ap (λ (i : ℕ). getD sent i noData ∷ othersIn sent r) (sym (add-zero r))
+
+-- q is what the code makes of process a at its close
+module _ (s : Bench) (a r : ℕ) (q : Process) (e : r ≡ processAt s a .round - 1)
+    (h : q ≡ closeOf (s .n) (s .t) a (rowsOf (rowsIn (s .sent) r)) (processAt s a)) where
+  closed : q ≡ closeOf (s .n) (s .t) a (rowsAt s (processAt s a .round)) (processAt s a)
+  unfolding rowsAt sentAt
+  closed =
+      h ∙ close-rows (rowsOf (rowsIn (s .sent) r)) (rowsAt s (processAt s a .round))
+      (λ k l.
+      ap (λ (rows : List GlobalData). getD rows k noData) (rows-each (s .sent) r)
+      ∙ getD-each 16 (λ k. getD (s .sent) (r + k * 16) noData) noData k l ∙ ap (λ i. getD (s .sent) i noData) (omega (arith, e)))
+      (s .n) (s .t) a (processAt s a)
+
+  pub effect-decides : hasDecided q ≡ true → withProcess s a q ≡ effect (Close a) s
+  unfolding effect closesAs
+  effect-decides d = rw (← closed) (sym (choose-on (hasDecided q) (withProcess s a q) (opensRound s a q) d))
+
+  pub effect-opens : hasDecided q ≡ false → (i : ℕ) → i ≡ q .round - 1 → openedAt s a i q ≡ effect (Close a) s
+  unfolding effect closesAs
+  effect-opens d i j =
+      opened-at s a i q j ∙ rw (← closed) (sym (choose-off (hasDecided q) (withProcess s a q) (opensRound s a q) d))
+
+  -- the round that it opens
+  pub opened-round : hasDecided q ≡ false → (q .round ≡ processAt s a .round + 1) × (processAt s a .round ≢ s .t + 1)
+  opened-round d =
+      rw h (close-opens (s .n) (s .t) a (rowsOf (rowsIn (s .sent) r)) (processAt s a) (rw h at d))

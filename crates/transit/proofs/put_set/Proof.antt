@@ -1,0 +1,71 @@
+-- `put_set` stores the message for each receiver. The loop's invariant: what is stored is the bytes for the receivers below b.
+use mathlib.Core.Path.{_≡_}
+use Prim.Native.Nat.{_≤_, _-_}
+use native.Mathlib.Omega.{arith}
+use lib.ListN.{length}
+use borrow.Author.Needs.{needs}
+use Rattle.bench.specs.Calls.{joined}
+use Rattle.bench.specs.TransitLaws.{setBytes, Stores, stores-none, stores-length, stores-more, stores-room}
+use Rattle.transit.proofs.put_set.Statement.{statement}
+use Rattle.transit.proofs.put_set.Tie as tie
+
+abbrev Inv-loop : tie.InvT-loop
+Inv-loop out₀ at n m r a place₀ b₀ out place b = (b ≤ n) × Stores out₀ at (joined b (setBytes m r a)) out place
+
+abbrev μ-loop : tie.MeasureT-loop
+μ-loop out₀ at n m r a place₀ b₀ out place b = n - b
+
+loop-holds : tie.Need-loop-holds Inv-loop μ-loop
+unfolding joined
+loop-holds c = (search needs, stores-none (c .before .args .out .now) (c .before .args .at))
+
+put-message-requires : tie.Need-put-message-requires Inv-loop μ-loop
+put-message-requires c κs =
+    let a = c .before .before .before .before .args in
+    let l = c .before .before .loop in (
+      search needs,
+      omega arith,
+      stores-room (setBytes (a .m) (a .r) (a .a)) (a .out .now) (a .at) (a .n) (l .b) (l .out) (l .place) (c .before .loop-test .taken)
+          (c .before .before .before .before .pre .2) (l .inv .1),
+    )
+
+add-b : tie.Need-add-b Inv-loop μ-loop
+add-b c = search needs
+
+loop-less : tie.Need-loop-less Inv-loop μ-loop
+loop-less c = search needs
+
+loop-again : tie.Need-loop-again Inv-loop μ-loop
+loop-again c =
+    let a = c .before .before .before .before .before .before .before .args in
+    let l = c .before .before .before .before .before .loop in
+    let p = c .before .before .put-message in (
+      search needs,
+      stores-more (setBytes (a .m) (a .r) (a .a)) (a .out .now) (a .at) (l .b) (l .out) (l .place) (p .last .0) (p .result) (l .inv .1) (p .ensures),
+    )
+
+same-length : tie.Need-same-length Inv-loop μ-loop
+same-length c =
+    let a = c .before .before .before .args in
+    let l = c .before .loop in
+    stores-length (a .out .now) (a .at) (joined (l .b) (setBytes (a .m) (a .r) (a .a))) (l .out) (l .place) (l .inv .1)
+
+returns : tie.Need-returns Inv-loop μ-loop
+returns c =
+    let l = c .before .loop in
+    let e : l .b ≡ c .before .before .before .args .n = search needs in
+    rw (← e) (l .inv .1)
+
+pub put-set-spec : {M : Type 1} → statement M
+put-set-spec =
+    tie.close
+    (tie.spec
+    Inv-loop
+    μ-loop
+    loop-holds
+    put-message-requires
+    add-b
+    loop-less
+    loop-again
+    same-length
+    returns)

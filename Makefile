@@ -1,28 +1,31 @@
-# `make run` runs the program on a schedule; `make test` is the whole gate; `make bench` compares speeds; `make soak` compares for longer.
+# `make run` runs the program on a schedule; `make test` is the whole gate; `make edits` tries the edits that the gate leaves out;
+# `make library` writes the library for C and Rust; `make bench` compares speeds; `make soak` compares for longer.
+SHELL := /bin/bash
 SCHEDULE ?= crates/simulate/stdin
 
-.PHONY: run test library bench soak
+.PHONY: run test edits library bench soak
 
-# Proves and builds the program; what the checker says goes to target/run.log.
+# Proves and builds the program; a line for each crate as it is proved goes to standard error, and the program's own lines to standard output.
 run:
-	@mkdir -p target
-	@rt check simulate > target/run.log 2>&1 || { cat target/run.log; exit 1; }
+	@scripts/proved check simulate >&2
 	@target/bin/simulate < $(SCHEDULE)
 
-# The proved library for Rust and C.
-library:
-	rt staticlib export
+# The last line is the gate's verdict.
+test:
+	@scripts/gate
 
-# The C header, the reference's own tests, the library against the reference; the last line is the gate's verdict.
-test: library
-	cc -std=c11 -Wall -Wextra -Werror -Iinclude include/check.c target/staticlib/libexport.a -o target/check_header
-	target/check_header
-	cd reference && cargo test --release --offline --quiet
-	cd reference && cargo test --release --offline --quiet --features proved --test differential -- --nocapture
-	rt ci
+edits:
+	@scripts/edits
+
+# The proved library for Rust and C, target/staticlib/libgerzulan.a: the exported calls of the two crates in one archive.
+EXPORTS := export_bench export_aggregates
+library:
+	@for crate in $(EXPORTS); do scripts/proved staticlib $$crate || exit 1; done
+	@cd target/staticlib && rm -f libgerzulan.a && for crate in $(EXPORTS); do ar x lib$$crate.a; done && \
+	ar crs libgerzulan.a $(EXPORTS:=.o) && rm -f $(EXPORTS:=.o)
 
 bench: library
-	rt check simulate > target/bench.log 2>&1
+	@scripts/proved check simulate
 	cd reference && cargo build --release --offline --quiet --features proved && target/release/bench
 
 # Ten minutes of the differential test.

@@ -102,7 +102,7 @@ pub fn open_by(b: Bench, n: u8, t: u8) -> HostOpened
 }
 
 // The end of a run, without the bench.
-pub fn reached(e: Ended) -> Reached
+pub fn run_end(e: Ended) -> Reached
     ensures { λ r. ⌜ r ≡ reachedOf e ⌝ }
 {
     let cause = e.cause;

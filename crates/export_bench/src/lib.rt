@@ -5,7 +5,7 @@ use answers::host_ran;
 use answers::host_stepped;
 use answers::list_by;
 use answers::open_by;
-use answers::reached;
+use answers::run_end;
 use answers::show_by;
 use bench::Bench;
 use bench::Counters;
@@ -32,7 +32,7 @@ fn run_in(b: &mut Bench, schedule: &[u8], budget: u32) -> Reached
 {
     let e = run_bytes(*b, schedule, budget);
     *b = e.bench;
-    reached(e)
+    run_end(e)
 }
 
 // One record, with the host's tally.

@@ -9,7 +9,7 @@ use Rattle.sets.specs.Every.{every as everyBelow}
 use Rattle.sets.specs.Set.{has, insertOf, removeOf, unionOf, intersectionOf, differenceOf, allOf, sizeOf}
 use Rattle.sets.specs.Truth.{_&&_, _||_, same, below, choose}
 use Rattle.global_data.specs.GlobalData.{entryOf, sameEntry, nothingOf, oneOf, filledWord, fillOf, fillFrom, sameTo, allSame}
-use Rattle.process.specs.Steps.{idleOf, takesPart, openOf, startOf, keeps, receiveOf, arrivedOf, dueOf, nextOf, peersOf, filledOf, agreedOf, decidesOf, owedOf, decideOf, advanceOf, closeOf, adoptOf, messageOf, sendOf, suspectOf}
+use Rattle.process.specs.Steps.{idleOf, hasDecided, takesPart, openOf, startOf, keeps, receiveOf, arrivedOf, dueOf, nextOf, peersOf, filledOf, agreedOf, decidesOf, owedOf, decideOf, advanceOf, closeOf, adoptOf, messageOf, sendOf, suspectOf}
 use Rattle.bench.specs.State.{processAt, sentAt, transitAt, crashedAt, withProcess, withSent, withTransit, withCrashed, openedOf}
 use Rattle.bench.specs.Sound.{opens, every, within, soundData, soundProcess, soundOf}
 use Rattle.bench.specs.Record.{wordOf, isProcess, usesB, usesR, usesValue, fieldB, fieldR, fieldValue, fields, messageFrom, eventOf, partsOf, decodeOf}
@@ -57,5 +57,5 @@ output =
 pub case4 : outputOf input ≡ output
 unfolding input output digits decimal field lineOf entryText processText processesText bit
     openingRefusal unopened openingOf recordsIn answerAt lineAt linesOf afterAll writtenAfter outputOf joined openBench restOf recordAt steps
-    has insertOf removeOf unionOf intersectionOf differenceOf allOf sizeOf ones _&&_ _||_ same below choose entryOf sameEntry each everyBelow nothingOf oneOf filledWord fillOf fillFrom sameTo allSame idleOf takesPart openOf startOf keeps receiveOf arrivedOf dueOf nextOf peersOf filledOf agreedOf decidesOf owedOf decideOf advanceOf closeOf adoptOf messageOf sendOf suspectOf processAt sentAt transitAt crashedAt withProcess withSent withTransit withCrashed openedOf opens every within soundData soundProcess soundOf wordOf isProcess usesB usesR usesValue fieldB fieldR fieldValue fields messageFrom eventOf partsOf decodeOf check numberOf actor possible ready allowed refuses refusesDecoded refusal opensRound rowsAt sends arrives closesAs effect effectDecoded effectOf after
+    has insertOf removeOf unionOf intersectionOf differenceOf allOf sizeOf ones _&&_ _||_ same below choose entryOf sameEntry each everyBelow nothingOf oneOf filledWord fillOf fillFrom sameTo allSame idleOf hasDecided takesPart openOf startOf keeps receiveOf arrivedOf dueOf nextOf peersOf filledOf agreedOf decidesOf owedOf decideOf advanceOf closeOf adoptOf messageOf sendOf suspectOf processAt sentAt transitAt crashedAt withProcess withSent withTransit withCrashed openedOf opens every within soundData soundProcess soundOf wordOf isProcess usesB usesR usesValue fieldB fieldR fieldValue fields messageFrom eventOf partsOf decodeOf check numberOf actor possible ready allowed refuses refusesDecoded refusal opensRound rowsAt sends arrives closesAs effect effectDecoded effectOf after
 case4 = refl

@@ -1,5 +1,5 @@
 -- `run_in` meets its contract: its code is walked by hand, since the bench is behind a reference. The borrow is opened and the bench read, `run_bytes`,
--- which is covered, does the work, the bench it gives is stored, the borrow is closed there, and `reached`, covered too, gives how the run ended.
+-- which is covered, does the work, the bench it gives is stored, the borrow is closed there, and `run_end`, covered too, gives how the run ended.
 -- Plain data owns nothing but facts, so it is dropped and made anew from its relation; what the slice owns can be had twice.
 use mathlib.Core.Path.{_≡_, refl, ap, subst, _∙_}
 use mathlib.Core.List.{List, [], _∷_}
@@ -56,10 +56,10 @@ use Rattle.run.proofs.run_bytes as work
 use Rattle.run.proofs.run_bytes.Symbol as work-symbol
 use Rattle.run.proofs.run_bytes.Symbol.{name as #work}
 use Rattle.run.proofs.run_bytes.Met as work-met
-use Rattle.answers.proofs.reached as end
-use Rattle.answers.proofs.reached.Symbol as end-symbol
-use Rattle.answers.proofs.reached.Symbol.{name as #end}
-use Rattle.answers.proofs.reached.Met as end-met
+use Rattle.answers.proofs.run_end as end
+use Rattle.answers.proofs.run_end.Symbol as end-symbol
+use Rattle.answers.proofs.run_end.Symbol.{name as #end}
+use Rattle.answers.proofs.run_end.Met as end-met
 use Rattle.export_bench.proofs.run_in.Key.{name as #this}
 use Rattle.export_bench.proofs.run_in as this
 use Rattle.export_bench.proofs.run_in.Statement as stated
@@ -235,4 +235,4 @@ run-in-spec 𝓤 H 𝓜 𝓖 𝓡 =
     (𝓣 .C) (𝓣 .Λ) #this code.function (code.unfolded 𝓤 H 𝓜 𝓡)
     (meets 𝓤 H (𝓖 .A) (givenOf 𝓤 H 𝓜 𝓖) (𝓜 .mem) (𝓡 .run) (tablesOf 𝓤 H 𝓜 𝓣)
     (cited 𝓤 H (Work 𝓤 H (𝓖 .A) (𝓜 .mem) (𝓡 .run)) 𝓜 𝓡 code.env #work work-symbol.routine code.calls-run·run-bytes (work-met.met 𝓤 H 𝓜 𝓖 𝓡))
-    (cited 𝓤 H (End 𝓤 H (𝓖 .A) (𝓜 .mem) (𝓡 .run)) 𝓜 𝓡 code.env #end end-symbol.routine code.calls-answers·reached (end-met.met 𝓤 H 𝓜 𝓖 𝓡)))
+    (cited 𝓤 H (End 𝓤 H (𝓖 .A) (𝓜 .mem) (𝓡 .run)) 𝓜 𝓡 code.env #end end-symbol.routine code.calls-answers·run-end (end-met.met 𝓤 H 𝓜 𝓖 𝓡)))

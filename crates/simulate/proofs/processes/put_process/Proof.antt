@@ -49,8 +49,8 @@ put-byte-requires-2 c κs =
     let entries = c .before .before .before .put-entries in
     omega (
       arith,
-      c .before .before .before .before .before .before .before .before .before .before .before .before .before .before .before .before .before .before .before .before .before .before .before .before .before .before .before .before .before .before .pre .0,
-      c .before .before .before .before .before .before .before .before .before .before .before .before .before .before .before .before .before .before .before .before .before .before .before .before .before .before .before .before .before .before .pre .1,
+      c .before .before .before .before .before .before .before .before .before .before .before .before .before .before .before .before .before .before .before .before .before .before .before .before .before .before .before .before .before .before .before .pre .0,
+      c .before .before .before .before .before .before .before .before .before .before .before .before .before .before .before .before .before .before .before .before .before .before .before .before .before .before .before .before .before .before .before .pre .1,
       letter .ensures .place,
       number .ensures .short,
       round .ensures .short,
@@ -84,12 +84,12 @@ returns c =
           (stores-then (number .ensures .stores)
           (stores-then (round .ensures .stores)
           (stores-then (rw (c .before .before .before .before .before .before .before .before .before .before .before .before .before .before .before .before .flag .ensures) at (crash .ensures .stores))
-          (stores-then (rw (c .before .before .before .before .before .before .before .before .before .before .before .flag2 .ensures, c .before .before .before .before .before .before .before .before .before .before .before .before .before .before .before .before .before .before .before .before .before .before .before .before .before .before .before .before .before .before .has-decided .ensures) at (decided .ensures .stores))
+          (stores-then (rw (c .before .before .before .before .before .before .before .before .before .before .before .flag2 .ensures, c .before .before .before .before .before .before .before .before .before .before .before .before .before .before .before .before .before .before .before .before .before .before .before .before .before .before .before .before .before .before .before .has-decided .ensures) at (decided .ensures .stores))
           (stores-then (entries .ensures .stores) (end .ensures))))));
       short =
           omega (
             arith,
-            c .before .before .before .before .before .before .before .before .before .before .before .before .before .before .before .before .before .before .before .before .before .before .before .before .before .before .before .before .before .before .before .before .before .pre .0,
+            c .before .before .before .before .before .before .before .before .before .before .before .before .before .before .before .before .before .before .before .before .before .before .before .before .before .before .before .before .before .before .before .before .before .before .pre .0,
             letter .ensures .place,
             number .ensures .short,
             round .ensures .short,

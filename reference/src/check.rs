@@ -46,7 +46,7 @@ impl History {
                 self.started.values[a] = record.value;
                 self.opened[a] = 1;
             }
-            4 if !after.processes[a].decided => self.opened[a] += 1,
+            4 if !after.processes[a].has_decided() => self.opened[a] += 1,
             5 => self.crashed |= bit(a),
             _ => {}
         }

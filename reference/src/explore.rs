@@ -91,7 +91,7 @@ impl Walk {
                 continue;
             }
             quiet &= record.kind == 5;
-            if self.first.is_none() && self.bench.processes[saved.actor].decided {
+            if self.first.is_none() && self.bench.processes[saved.actor].has_decided() {
                 self.first = Some(self.bench.crashed);
             }
             self.path.push(record);
@@ -122,7 +122,7 @@ impl Walk {
 
     fn check_decisions(&self) -> Result<(), Broken> {
         let mut agreed: Option<&GlobalData> = None;
-        for (i, p) in self.bench.processes.iter().enumerate().filter(|(_, p)| p.decided) {
+        for (i, p) in self.bench.processes.iter().enumerate().filter(|(_, p)| p.has_decided()) {
             let number = i as u8 + 1;
             let before = self.first.ok_or("a decision before the first")?;
             valid(number, &p.estimate, &self.started())?;
@@ -146,7 +146,7 @@ impl Walk {
 
     fn check_quiet_end(&self) -> Result<(), Broken> {
         let mut running = members(self.bench.everyone() & !self.bench.crashed);
-        match running.find(|&i| !self.bench.processes[i].decided) {
+        match running.find(|&i| !self.bench.processes[i].has_decided()) {
             Some(i) => Err(format!("quiet end: process {} is running and undecided", i + 1)),
             None => Ok(()),
         }
@@ -179,7 +179,7 @@ impl Saved {
         let row = actor * Bench::MAX + process.round as usize;
         let message = match record.kind {
             3 => record.r,
-            _ if process.decided => 0,
+            _ if process.has_decided() => 0,
             _ => process.round,
         };
         let slot = (record.a as usize - 1) * Bench::SLOTS + message as usize;
@@ -241,7 +241,7 @@ fn pack(bench: &Bench, first: Option<u16>) -> Result<u128, Broken> {
     bits.put(first.unwrap_or(0), n);
     for (i, p) in bench.processes[..n as usize].iter().enumerate() {
         bits.put(p.round as u16, 2);
-        bits.put(p.decided as u16, 1);
+        bits.put(p.has_decided() as u16, 1);
         bits.put(p.previous, n);
         bits.put(p.current, n);
         bits.put_without(p.suspected, n, i)?;
@@ -345,7 +345,7 @@ mod tests {
                 for record in &records {
                     let mut after = bench;
                     if after.step_sound(&record.bytes()) == 0 {
-                        let decided = after.processes.iter().any(|p| p.decided);
+                        let decided = after.processes.iter().any(|p| p.has_decided());
                         open.push((after, first.or(decided.then_some(after.crashed))));
                     }
                 }

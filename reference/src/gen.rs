@@ -99,7 +99,7 @@ impl Accepted {
 
 /// A close of a is accepted.
 fn due(p: &Process, a: usize) -> bool {
-    let open = p.round != 0 && !p.decided && p.outbox == 0;
+    let open = p.round != 0 && !p.has_decided() && p.outbox == 0;
     open && {
         let missing = p.current & !p.received[p.round as usize - 1] & !p.suspected;
         missing & !bit(a) == 0
@@ -188,7 +188,7 @@ impl Adversary {
         let last = self.last.take()?;
         let part = match last.kind {
             2 => self.crash_after_send,
-            4 if bench.processes[last.a as usize - 1].decided => self.crash_after_deciding,
+            4 if bench.processes[last.a as usize - 1].has_decided() => self.crash_after_deciding,
             _ => 0,
         };
         let crash = choices.of_kind[5].iter().copied().find(|record| record.a == last.a);
@@ -300,6 +300,17 @@ pub fn schedule_without_crashes(n: u8, t: u8, seed: u64) -> Vec<u8> {
     records_by(Adversary::without_crashes(seed), n, t, 0).concat()
 }
 
+/// A state somewhere along a random schedule.
+pub fn reached_state(rng: &mut Rng, n: u8, t: u8) -> Bench {
+    let records = records(n, t, rng.draw(), 0);
+    let taken = rng.below(records.len() + 1);
+    let mut bench = Bench::open(n, t).expect("a good size");
+    for record in &records[..taken] {
+        bench.step_sound(record);
+    }
+    bench
+}
+
 /// A sound state that mostly no schedule reaches. With `junk`, also rows of no process of the
 /// bench and rounds past t+1 hold bits.
 pub fn random_state(rng: &mut Rng, n: u8, t: u8, junk: bool) -> Bench {
@@ -327,13 +338,23 @@ fn random_process(rng: &mut Rng, everyone: u16, t: u8, junk: bool) -> Process {
     }
     Process {
         round: rng.below(t as usize + 2) as u8,
-        decided: rng.percent(25),
+        decided: decided_byte(rng),
         previous: if rng.percent(50) { current } else { rng.subset(everyone) },
         current,
         suspected: rng.subset(everyone),
         outbox: if rng.percent(50) { 0 } else { rng.subset(everyone) },
         estimate: random_data(rng, everyone),
         received,
+    }
+}
+
+/// 0 in three of four; else 1, or any byte that is not 0.
+fn decided_byte(rng: &mut Rng) -> u8 {
+    let draw = rng.draw();
+    match draw % 100 {
+        0..=12 => 1,
+        13..=24 => 1 + ((draw >> 32) % 255) as u8,
+        _ => 0,
     }
 }
 
@@ -397,6 +418,17 @@ mod tests {
                 assert!(!bench.is_sound());
             }
         }
+    }
+
+    #[test]
+    fn any_byte_in_decided() {
+        let mut rng = Rng::new(7);
+        let mut drawn = [false; 256];
+        for _ in 0..2000 {
+            let state = random_state(&mut rng, 3, 2, true);
+            state.processes.iter().for_each(|p| drawn[p.decided as usize] = true);
+        }
+        assert!(drawn.iter().all(|drawn| *drawn));
     }
 
     /// `Accepted` names exactly what `step` accepts, on reached states and on others.

@@ -17,7 +17,8 @@ pub struct GlobalData {
 pub struct Process {
     /// 0 is not started.
     pub round: u8,
-    pub decided: bool,
+    /// Not 0: it has decided. A step that decides writes 1; no other step changes it.
+    pub decided: u8,
     /// Processes expected in the round before (paper: before-set).
     pub previous: u16,
     /// Processes expected in this round (paper: now-set).
@@ -104,7 +105,7 @@ impl GlobalData {
 impl Process {
     pub const UNSTARTED: Process = Process {
         round: 0,
-        decided: false,
+        decided: 0,
         previous: 0,
         current: 0,
         suspected: 0,
@@ -112,6 +113,10 @@ impl Process {
         estimate: GlobalData::ABSENT,
         received: [0; Bench::MAX],
     };
+
+    pub fn has_decided(&self) -> bool {
+        self.decided != 0
+    }
 
     /// All bits used in any set of this process.
     fn used(&self) -> u16 {
@@ -154,7 +159,7 @@ impl Bench {
         &self.sent[a * Bench::MAX + round as usize - 1]
     }
 
-    /// No n, t, round, set or mark is out of range, in used rows and unused ones.
+    /// No n, t, round, set or mark is out of range, in used rows and unused ones. `decided` may be any byte.
     pub fn is_sound(&self) -> bool {
         if check_n(self.n).is_err() || self.t >= self.n {
             return false;
@@ -187,6 +192,7 @@ mod tests {
         assert_eq!(size_of::<Process>(), 112);
         assert_eq!(size_of::<Bench>(), 4 + 16 * 112 + 256 * 68 + 272 * 2);
         assert!(size_of::<Bench>() <= 64 * 1024);
+        assert_eq!((offset_of!(Process, decided), size_of_val(&Process::UNSTARTED.decided)), (1, 1));
         assert_eq!(offset_of!(Process, estimate), 12);
         assert_eq!(offset_of!(Bench, sent), 4 + 16 * 112);
     }
@@ -231,5 +237,6 @@ mod tests {
         assert!((0..256).all(|i| damaged(|b| b.sent[i].present = 8)));
         assert!((0..272).all(|i| damaged(|b| b.in_transit[i] = 8)));
         assert!((0..272).all(|i| !damaged(|b| b.in_transit[i] = 7)));
+        assert!((0..=255).all(|byte| !damaged(|b| b.processes.iter_mut().for_each(|p| p.decided = byte))));
     }
 }

@@ -11,7 +11,7 @@ impl Bench {
         self.check_sound()?;
         let p = &self.processes[index(number, self.n)?];
         let out = out.get_mut(..self.n as usize).ok_or(Refusal::Slice)?;
-        if !p.decided {
+        if !p.has_decided() {
             return Err(Refusal::Undecided);
         }
         for (i, word) in out.iter_mut().enumerate() {
@@ -65,7 +65,7 @@ mod tests {
 
     fn decided() -> Bench {
         let mut bench = Bench::open(3, 1).unwrap();
-        bench.processes[1].decided = true;
+        bench.processes[1].decided = 1;
         bench.processes[1].estimate.present = 0b101;
         bench.processes[1].estimate.values = [7; 16];
         bench.crashed = 0b010;

@@ -56,7 +56,7 @@ mod tests {
 
         let mut bench = open;
         assert_eq!(bench.run(&bytes, 2), (2, Cause::Done, &bytes[16..]));
-        assert!(bench.processes[0].decided);
+        assert!(bench.processes[0].has_decided());
 
         let mut bench = open;
         assert_eq!(bench.run(&bytes, 1), (1, Cause::Spent, &bytes[8..]));

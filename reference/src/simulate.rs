@@ -1,6 +1,5 @@
 //! The program of the paper: records in, one line each, then a `T` line for each process.
 
-use crate::layout::Process;
 use crate::{Bench, Record, Refusal};
 use std::fmt::Write;
 
@@ -38,11 +37,11 @@ fn lines(mut bench: Bench, schedule: &[u8]) -> String {
 }
 
 fn process_line(bench: &Bench, a: usize) -> String {
-    let Process { round, decided, estimate, .. } = &bench.processes[a];
-    let crashed = bench.has_crashed(a) as u8;
-    let mut line = format!("T {} {} {} {}", a + 1, round, crashed, *decided as u8);
+    let p = &bench.processes[a];
+    let (crashed, decided) = (bench.has_crashed(a) as u8, p.has_decided() as u8);
+    let mut line = format!("T {} {} {crashed} {decided}", a + 1, p.round);
     for i in 0..bench.n as usize {
-        match estimate.entry(i) {
+        match p.estimate.entry(i) {
             Some(value) => write!(line, " {value}").expect("a string takes all"),
             None => line.push_str(" -"),
         }
@@ -65,6 +64,17 @@ mod tests {
         assert_eq!(simulate(&[0, 17, 1, 0, 0, 0, 0, 0]), "0 1\n");
         assert_eq!(simulate(&[0, 3, 3, 0, 0, 0, 0, 0]), "0 1\n");
         assert_eq!(simulate(&[0, 2, 1, 0, 0, 0, 0, 0]), "T 1 0 0 0 - -\nT 2 0 0 0 - -\n");
+    }
+
+    /// Any byte but 0 is shown as 1.
+    #[test]
+    fn decided_shows_as_1() {
+        let mut bench = Bench::open(1, 0).unwrap();
+        assert_eq!(process_line(&bench, 0), "T 1 0 0 0 -\n");
+        for byte in 1..=255 {
+            bench.processes[0].decided = byte;
+            assert_eq!(process_line(&bench, 0), "T 1 0 0 1 -\n");
+        }
     }
 
     #[test]

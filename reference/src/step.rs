@@ -70,7 +70,7 @@ impl Bench {
             return Err(Refusal::NotDue);
         }
         p.outbox &= !bit(b);
-        let slot = if p.decided { 0 } else { p.round as usize };
+        let slot = if p.has_decided() { 0 } else { p.round as usize };
         self.in_transit[a * Bench::SLOTS + slot] |= bit(b);
         Ok(())
     }
@@ -92,13 +92,13 @@ impl Bench {
         let p = &mut self.processes[b];
         let early = p.round == 0 || round > p.round;
         let expected = round == p.round && p.current & bit(a) != 0;
-        if !p.decided && (early || expected) {
+        if !p.has_decided() && (early || expected) {
             p.received[round as usize - 1] |= bit(a);
         }
     }
 
     fn receive_decision(&mut self, a: usize, b: usize) {
-        if self.processes[b].round != 0 && !self.processes[b].decided {
+        if self.processes[b].round != 0 && !self.processes[b].has_decided() {
             self.decide(b, self.processes[a].estimate, bit(a));
         }
     }
@@ -107,7 +107,7 @@ impl Bench {
     fn decide(&mut self, a: usize, data: GlobalData, told: u16) {
         let everyone = self.everyone();
         let p = &mut self.processes[a];
-        p.decided = true;
+        p.decided = 1;
         p.estimate = data;
         p.outbox = everyone & !(bit(a) | p.suspected | told);
     }
@@ -115,7 +115,7 @@ impl Bench {
     /// `next` is the paper's after-set.
     fn close(&mut self, a: usize) -> Answer {
         let p = &self.processes[a];
-        if p.round == 0 || p.decided || p.outbox != 0 {
+        if p.round == 0 || p.has_decided() || p.outbox != 0 {
             return Err(Refusal::NotDue);
         }
         let arrived = p.received[p.round as usize - 1] | bit(a);

@@ -53,7 +53,7 @@ fn case_2_no_crash() {
     let closes = "close 1\nclose 2\nclose 3\n";
     let text = "open 3 2\nstart 1 5\nstart 2 6\nstart 3 7\n".to_string() + &exchange(3, 1) + closes;
     let bench = after(&text);
-    assert!(bench.processes.iter().all(|p| !p.decided));
+    assert!(bench.processes.iter().all(|p| !p.has_decided()));
     let bench = after(&(text + &exchange(3, 2) + closes));
     for number in 1..=3 {
         assert_eq!(bench.processes[number as usize - 1].round, 2);
@@ -139,7 +139,7 @@ fn case_8_equal_estimates_are_not_enough() {
     assert_eq!((one.round, one.previous, one.current), (2, 0b111, 0b101));
 
     let one = after(&(CASE_8.to_string() + "close 1")).processes[0];
-    assert_eq!((one.round, one.decided), (3, false));
+    assert_eq!((one.round, one.has_decided()), (3, false));
     assert_eq!((one.previous, one.current), (0b101, 0b101));
 }
 
@@ -154,7 +154,7 @@ fn slip_own_old_estimate() {
     assert_eq!((before.previous, before.current), (0b011, 0b011));
     let p = after(&(text.to_string() + "close 1")).processes[0];
     assert!(p.estimate.same(&data(&[Some(1), Some(2), Some(3)])));
-    assert_eq!((p.round, p.decided), (3, false));
+    assert_eq!((p.round, p.has_decided()), (3, false));
 }
 
 /// The round-1 estimate of 2 arrives when 2 is in round 2 and knows 3: 1 must not see that.
@@ -209,11 +209,11 @@ fn debts() {
                 arrive 3 1 round 1\nclose 1\nsend 1 3\nnotice 3 2\narrive 1 3 round 1\nsend 3 2\nclose 3\n\
                 send 3 1\narrive 3 1 round 2\nclose 1\n";
     let bench = after(text);
-    assert!(bench.processes[0].decided);
+    assert!(bench.processes[0].has_decided());
     assert_eq!(bench.processes[0].outbox, 0b100);
     // 3 decides by the decision of 1, so it owes none to 1, nor to 2.
     let bench = after(&(text.to_string() + "send 1 3\narrive 1 3 decision"));
-    assert!(bench.processes[2].decided);
+    assert!(bench.processes[2].has_decided());
     assert_eq!(bench.processes[2].outbox, 0);
     assert_eq!(bench.decision(3), bench.decision(1));
 }

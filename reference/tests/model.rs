@@ -191,7 +191,7 @@ fn same_process(model: &Model, bench: &Bench, number: u8) {
     let node = &model.nodes[number as usize];
     let p = &bench.processes[number as usize - 1];
     let estimate: Data = (0..model.n as usize).map(|i| p.estimate.entry(i)).collect();
-    assert_eq!((p.round, p.decided, &estimate), (node.round, node.decided, &node.estimate));
+    assert_eq!((p.round, p.has_decided(), &estimate), (node.round, node.decided, &node.estimate));
     assert_eq!((set(p.previous), set(p.current)), (node.previous.clone(), node.current.clone()));
     assert_eq!((set(p.suspected), set(p.outbox)), (node.suspected.clone(), node.outbox.clone()));
     assert_eq!(bench.decision(number).is_ok(), node.decided);

@@ -1,15 +1,18 @@
-/* The proved library: link target/staticlib/libexport.a, which `rt staticlib export` writes (x86-64 Linux).
+/* The proved library, for C and C++: link target/staticlib/libgerzulan.a, which `make library` writes (x86-64 Linux).
  *
- * The host holds a bench and lends it. No call asks anything of the values: a damaged bench is refused. But each pointer is to initialised
- * memory of its type (a bench of all zero will do for `bench_open`), a length is that of the slice before it, `decided` is 0 or 1, and what
- * is lent to be written overlaps nothing else that is given. A refusal leaves all that is lent untouched, but for the tally and a run's
- * progress. Refusals have the numbers of document 01, 1 to 12. */
+ * The host holds a bench and lends it. No call asks anything of the values: a damaged bench is refused, and `decided` may be any byte. But
+ * each pointer is to initialised memory of its type (a bench of all zero will do for `gerzulan_bench_open`), a length is that of the slice
+ * before it, and what is lent to be written overlaps nothing else that is given. A refusal leaves all that is lent untouched, but for the
+ * tally and a run's progress. Refusals have the numbers of document 01, 1 to 12. */
 #ifndef GERZULAN_H
 #define GERZULAN_H
 
-#include <stdbool.h>
 #include <stddef.h>
 #include <stdint.h>
+
+#ifdef __cplusplus
+extern "C" {
+#endif
 
 /* The global data: entry i is absent where bit i of `present` is clear. */
 struct gerzulan_global_data {
@@ -20,7 +23,7 @@ struct gerzulan_global_data {
 /* One process. Sets are bits, process i at bit i from 0. */
 struct gerzulan_process {
     uint8_t round; /* 0 before its start */
-    bool decided;
+    uint8_t decided; /* not 0: it has decided. A step that decides writes 1. */
     uint16_t previous;
     uint16_t current;
     uint16_t suspected;
@@ -53,33 +56,37 @@ struct gerzulan_progress {
 };
 
 /* Opens a bench in place of *bench. 0, or 1 with *bench as it was. */
-uint32_t bench_open(struct gerzulan_bench *bench, uint8_t n, uint8_t t);
+uint32_t gerzulan_bench_open(struct gerzulan_bench *bench, uint8_t n, uint8_t t);
 
 /* One record, with the tally. 0, or its refusal, 2 to 9, with *bench as it was. */
-uint32_t bench_step(struct gerzulan_bench *bench, const uint8_t *record, size_t length, struct gerzulan_counters *tally);
+uint32_t gerzulan_bench_step(struct gerzulan_bench *bench, const uint8_t *record, size_t length, struct gerzulan_counters *tally);
 
 /* A run of a schedule, with a budget of records. Why it ended: */
 #define GERZULAN_EMPTY 0u   /* the schedule is empty */
 #define GERZULAN_SPENT 1u   /* the budget is spent */
 #define GERZULAN_REFUSED 16u /* and the number of the refusal: the record at `taken`, or 18, a damaged bench */
-uint32_t bench_run(struct gerzulan_bench *bench, const uint8_t *schedule, size_t length, uint32_t budget,
-                   struct gerzulan_progress *progress);
+uint32_t gerzulan_bench_run(struct gerzulan_bench *bench, const uint8_t *schedule, size_t length, uint32_t budget,
+                            struct gerzulan_progress *progress);
 
 /* The reading calls give what is asked for, or the number of their refusal in the high half. */
 #define GERZULAN_REFUSAL(answer) ((uint32_t)((answer) >> 32))
 
 /* Writes the n entries that a process, from 1, has decided on, absent as 0, and gives their marks. Refusals 2, 5, 10, 11. */
-uint64_t bench_global_data(const struct gerzulan_bench *bench, uint8_t process, uint32_t *out, size_t length);
+uint64_t gerzulan_bench_global_data(const struct gerzulan_bench *bench, uint8_t process, uint32_t *out, size_t length);
 
 /* Writes sender, receiver and round of each message in transit, a byte each, and gives how many there are. Refusals 2, 10. */
-uint64_t bench_in_transit(const struct gerzulan_bench *bench, uint8_t *out, size_t length);
+uint64_t gerzulan_bench_in_transit(const struct gerzulan_bench *bench, uint8_t *out, size_t length);
 
 /* Aggregates of n entries with their marks: 0, and the words after them are written; or a refusal, 1, 5, 10 or 12. */
-uint32_t aggregates_total(uint8_t n, const uint32_t *entries, size_t length, uint16_t marks, uint64_t *sum);
-uint32_t aggregates_go(uint8_t n, const uint32_t *entries, size_t length, uint16_t marks, uint8_t *go);
-uint32_t aggregates_lead(uint8_t n, const uint32_t *entries, size_t length, uint16_t marks, uint8_t *process,
-                         uint32_t *value);
-uint32_t aggregates_change(uint8_t n, const uint32_t *entries, size_t length, uint16_t marks, uint8_t process,
-                           uint32_t standing, int64_t *difference);
+uint32_t gerzulan_total(uint8_t n, const uint32_t *entries, size_t length, uint16_t marks, uint64_t *sum);
+uint32_t gerzulan_go(uint8_t n, const uint32_t *entries, size_t length, uint16_t marks, uint8_t *go);
+uint32_t gerzulan_lead(uint8_t n, const uint32_t *entries, size_t length, uint16_t marks, uint8_t *process,
+                       uint32_t *value);
+uint32_t gerzulan_change(uint8_t n, const uint32_t *entries, size_t length, uint16_t marks, uint8_t process,
+                         uint32_t standing, int64_t *difference);
+
+#ifdef __cplusplus
+}
+#endif
 
 #endif

@@ -1,14 +1,14 @@
 #!/bin/sh
 # Applies wrong edits of the rules, one at a time, to a copy under target/, and names the tests that fail.
 # Usage: ./mutations.sh [name...]            (from the package's directory)
-#        PROVED=1 ./mutations.sh [name...]   only the differential test with the proved library, which `rt staticlib export` writes
+#        PROVED=1 ./mutations.sh [name...]   only the differential test with the proved library, which `make library` writes
 set -eu
 only=" $* "
 place=target/mutations
 tests=
 if [ -n "${PROVED:-}" ]; then
     tests="--features proved --test differential"
-    PROVED_LIB_DIR=$(cd ../target/staticlib && pwd)
+    PROVED_LIB_DIR=$(cd "${PROVED_LIB_DIR:-../target/staticlib}" && pwd)
     export PROVED_LIB_DIR
 fi
 rm -rf "$place/copy"
@@ -62,7 +62,7 @@ try estimate-changed-since-the-opening src/layout.rs \
 try never-decide-early src/step.rs \
     'let settled = p.previous == next && self.all_equal(a, next, &estimate);' 'let settled = false;'
 try early-estimates-lost src/step.rs \
-    'if !p.decided && (early || expected) {' 'if !p.decided && expected {'
+    'if !p.has_decided() && (early || expected) {' 'if !p.has_decided() && expected {'
 try decision-sent-back src/step.rs \
     'self.decide(b, self.processes[a].estimate, bit(a));' 'self.decide(b, self.processes[a].estimate, 0);'
 try close-without-waiting src/step.rs \
@@ -72,7 +72,7 @@ try suspect-twice src/step.rs \
 try value-changed-at-start src/step.rs \
     'p.estimate.values[a] = value;' 'p.estimate.values[a] = value ^ 1;'
 try decide-again src/step.rs \
-    'if self.processes[b].round != 0 && !self.processes[b].decided {' 'if self.processes[b].round != 0 {'
+    'if self.processes[b].round != 0 && !self.processes[b].has_decided() {' 'if self.processes[b].round != 0 {'
 
 # The other calls, for the differential test.
 try tally-wraps src/counters.rs \
@@ -83,7 +83,7 @@ try list-without-last-round src/read.rs \
     '(0..=self.t + 1).flat_map(senders).flat_map(move |(a, r)| {' '(0..=self.t).flat_map(senders).flat_map(move |(a, r)| {'
 try undecided-before-short-slice src/read.rs \
     'let out = out.get_mut(..self.n as usize).ok_or(Refusal::Slice)?;' \
-    'if !p.decided { return Err(Refusal::Undecided); } let out = out.get_mut(..self.n as usize).ok_or(Refusal::Slice)?;'
+    'if !p.has_decided() { return Err(Refusal::Undecided); } let out = out.get_mut(..self.n as usize).ok_or(Refusal::Slice)?;'
 try unused-processes-not-checked src/layout.rs \
     'let processes = self.processes.iter().fold(0, |used, p| used | p.used());' \
     'let processes = self.processes.iter().take(self.n as usize).fold(0, |used, p| used | p.used());'

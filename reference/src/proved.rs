@@ -19,20 +19,25 @@ mod library {
     use crate::{Bench, Counters};
 
     extern "C" {
-        pub fn bench_open(bench: &mut Bench, n: u8, t: u8) -> u32;
-        pub fn bench_step(bench: &mut Bench, record: *const u8, length: usize, tally: &mut Counters) -> u32;
-        pub fn bench_run(
+        pub fn gerzulan_bench_open(bench: &mut Bench, n: u8, t: u8) -> u32;
+        pub fn gerzulan_bench_step(
+            bench: &mut Bench,
+            record: *const u8,
+            length: usize,
+            tally: &mut Counters,
+        ) -> u32;
+        pub fn gerzulan_bench_run(
             bench: &mut Bench,
             schedule: *const u8,
             length: usize,
             budget: u32,
             progress: &mut Progress,
         ) -> u32;
-        pub fn bench_global_data(bench: &Bench, process: u8, out: *mut u32, length: usize) -> u64;
-        pub fn bench_in_transit(bench: &Bench, out: *mut u8, length: usize) -> u64;
-        pub fn aggregates_total(n: u8, entries: *const u32, length: usize, marks: u16, sum: &mut u64) -> u32;
-        pub fn aggregates_go(n: u8, entries: *const u32, length: usize, marks: u16, go: &mut u8) -> u32;
-        pub fn aggregates_lead(
+        pub fn gerzulan_bench_global_data(bench: &Bench, process: u8, out: *mut u32, length: usize) -> u64;
+        pub fn gerzulan_bench_in_transit(bench: &Bench, out: *mut u8, length: usize) -> u64;
+        pub fn gerzulan_total(n: u8, entries: *const u32, length: usize, marks: u16, sum: &mut u64) -> u32;
+        pub fn gerzulan_go(n: u8, entries: *const u32, length: usize, marks: u16, go: &mut u8) -> u32;
+        pub fn gerzulan_lead(
             n: u8,
             entries: *const u32,
             length: usize,
@@ -40,7 +45,7 @@ mod library {
             process: &mut u8,
             value: &mut u32,
         ) -> u32;
-        pub fn aggregates_change(
+        pub fn gerzulan_change(
             n: u8,
             entries: *const u32,
             length: usize,
@@ -55,21 +60,22 @@ mod library {
 /// Opens a bench in place of `bench`; refused, `bench` stays.
 pub fn open(bench: &mut Bench, n: u8, t: u8) -> u32 {
     // SAFETY: the bench has the library's layout.
-    unsafe { library::bench_open(bench, n, t) }
+    unsafe { library::gerzulan_bench_open(bench, n, t) }
 }
 
 /// The call for one record.
 pub fn step(bench: &mut Bench, record: &[u8], tally: &mut Counters) -> u32 {
     // SAFETY: the structs have the library's layout; the slice is passed whole.
-    unsafe { library::bench_step(bench, record.as_ptr(), record.len(), tally) }
+    unsafe { library::gerzulan_bench_step(bench, record.as_ptr(), record.len(), tally) }
 }
 
 /// The records accepted, the cause and the part not taken.
 pub fn run<'a>(bench: &mut Bench, schedule: &'a [u8], budget: u32) -> (u32, Cause, &'a [u8]) {
     let mut progress = Progress::default();
     // SAFETY: as in `step`.
-    let ended =
-        unsafe { library::bench_run(bench, schedule.as_ptr(), schedule.len(), budget, &mut progress) };
+    let ended = unsafe {
+        library::gerzulan_bench_run(bench, schedule.as_ptr(), schedule.len(), budget, &mut progress)
+    };
     let cause = match ended {
         0 => Cause::Done,
         1 => Cause::Spent,
@@ -89,36 +95,36 @@ fn given(answer: u64) -> Result<u64, u32> {
 /// Writes what a process, from 1, has decided on, and gives its marks.
 pub fn global_data(bench: &Bench, process: u8, out: &mut [u32]) -> Result<u16, u32> {
     // SAFETY: as in `step`.
-    let answer = unsafe { library::bench_global_data(bench, process, out.as_mut_ptr(), out.len()) };
+    let answer = unsafe { library::gerzulan_bench_global_data(bench, process, out.as_mut_ptr(), out.len()) };
     given(answer).map(|marks| marks as u16)
 }
 
 /// Writes (a, b, r) for each message in transit, and gives how many there are.
 pub fn in_transit(bench: &Bench, out: &mut [u8]) -> Result<usize, u32> {
     // SAFETY: as in `step`.
-    let answer = unsafe { library::bench_in_transit(bench, out.as_mut_ptr(), out.len()) };
+    let answer = unsafe { library::gerzulan_bench_in_transit(bench, out.as_mut_ptr(), out.len()) };
     given(answer).map(|messages| messages as usize)
 }
 
 pub fn total(n: u8, entries: &[u32], marks: u16, sum: &mut u64) -> u32 {
     // SAFETY: the slice is passed whole.
-    unsafe { library::aggregates_total(n, entries.as_ptr(), entries.len(), marks, sum) }
+    unsafe { library::gerzulan_total(n, entries.as_ptr(), entries.len(), marks, sum) }
 }
 
 /// 1 for go, else 0.
 pub fn go(n: u8, entries: &[u32], marks: u16, go: &mut u8) -> u32 {
     // SAFETY: the slice is passed whole.
-    unsafe { library::aggregates_go(n, entries.as_ptr(), entries.len(), marks, go) }
+    unsafe { library::gerzulan_go(n, entries.as_ptr(), entries.len(), marks, go) }
 }
 
 pub fn lead(n: u8, entries: &[u32], marks: u16, process: &mut u8, value: &mut u32) -> u32 {
     // SAFETY: the slice is passed whole.
-    unsafe { library::aggregates_lead(n, entries.as_ptr(), entries.len(), marks, process, value) }
+    unsafe { library::gerzulan_lead(n, entries.as_ptr(), entries.len(), marks, process, value) }
 }
 
 pub fn change(n: u8, entries: &[u32], marks: u16, process: u8, standing: u32, difference: &mut i64) -> u32 {
     // SAFETY: the slice is passed whole.
     unsafe {
-        library::aggregates_change(n, entries.as_ptr(), entries.len(), marks, process, standing, difference)
+        library::gerzulan_change(n, entries.as_ptr(), entries.len(), marks, process, standing, difference)
     }
 }

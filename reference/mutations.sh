@@ -34,8 +34,9 @@ try() {
         echo "   NOT CAUGHT"
     else
         sed -n 's/^test \(.*\) \.\.\. FAILED$/   \1/p' "$log"
+        grep -q '^test .* FAILED$' "$log" || echo "   no test has a name: see $log"
         grep -h -o '^n [0-9]*, t [0-9]*\(, seed [0-9]*\(, record [0-9]*\)\{0,1\}\)\{0,1\}: [^{]*' "$log" | grep -v ': Found' | cut -c1-110 | sed 's/^/     /' | head -8 || true
-        grep -h -o '^seed [0-9]*, .*' "$log" | cut -c1-150 | sed 's/^/     /' | head -1 || true
+        grep -h -o '^seed [0-9]*, .*' "$log" | cut -c1-150 | sed 's/^/     /' | head -2 || true
         grep -q '^error' "$log" && grep '^error' "$log" | grep -v 'test failed\|target' | sed 's/^/   /' || true
     fi
 }
@@ -91,3 +92,35 @@ try lead-ties-to-highest src/aggregates.rs \
     'if best.is_none_or(|(_, value)| entries[i] > value) {' 'if best.is_none_or(|(_, value)| entries[i] >= value) {'
 try change-of-32-bits src/aggregates.rs \
     'Ok(entries[i] as i64 - standing as i64)' 'Ok(entries[i].wrapping_sub(standing) as i32 as i64)'
+
+# The byte in `decided`.
+try decided-only-by-1 src/layout.rs \
+    'self.decided != 0' 'self.decided == 1'
+try decided-by-the-low-bit src/layout.rs \
+    'self.decided != 0' 'self.decided & 1 != 0'
+try another-byte-is-damage src/layout.rs \
+    'used & !self.everyone() == 0 && self.processes.iter().all(|p| p.round <= self.t + 1)' \
+    'used & !self.everyone() == 0 && self.processes.iter().all(|p| p.round <= self.t + 1 && p.decided <= 1)'
+try decision-keeps-the-byte src/step.rs \
+    'p.decided = 1;' ''
+try decision-writes-255 src/step.rs \
+    'p.decided = 1;' 'p.decided = 255;'
+try decision-to-the-decided-writes-1 src/step.rs \
+    'if self.processes[b].round != 0 && !self.processes[b].has_decided() {' \
+    'if self.processes[b].has_decided() { self.processes[b].decided = 1; } if self.processes[b].round != 0 && !self.processes[b].has_decided() {'
+try start-clears-the-byte src/step.rs \
+    'p.previous = everyone;' 'p.previous = everyone; p.decided = 0;'
+try send-makes-the-byte-1 src/step.rs \
+    'p.outbox &= !bit(b);' 'p.outbox &= !bit(b); p.decided = p.decided.min(1);'
+try only-by-1-in-send src/step.rs \
+    'let slot = if p.has_decided() { 0 } else { p.round as usize };' \
+    'let slot = if p.decided == 1 { 0 } else { p.round as usize };'
+try only-by-1-at-an-estimate src/step.rs \
+    'if !p.has_decided() && (early || expected) {' 'if p.decided != 1 && (early || expected) {'
+try only-by-1-at-a-decision src/step.rs \
+    'if self.processes[b].round != 0 && !self.processes[b].has_decided() {' \
+    'if self.processes[b].round != 0 && self.processes[b].decided != 1 {'
+try only-by-1-in-close src/step.rs \
+    'if p.round == 0 || p.has_decided() || p.outbox != 0 {' 'if p.round == 0 || p.decided == 1 || p.outbox != 0 {'
+try only-by-1-in-global-data src/read.rs \
+    'if !p.has_decided() {' 'if p.decided != 1 {'

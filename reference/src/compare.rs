@@ -2,41 +2,11 @@
 //! all that is lent. What differs panics with the seed and the place.
 
 use crate::gen::{self, Adversary, Rng};
-use crate::{aggregates, proved, Bench, Cause, Counters, Refusal};
+use crate::layout::members;
+use crate::met::{call, Met, GLOBAL_DATA, IN_TRANSIT, RUN, TELLING, WAITING};
+use crate::{aggregates, proved, Bench, Cause, Counters, Record, Refusal};
+use std::collections::BTreeMap;
 use std::fmt::Debug;
-
-/// What was met: records given, and answers by their number, 0 for none refused.
-#[derive(Clone, Default, Debug)]
-pub struct Met {
-    pub records: u64,
-    pub accepted: u64,
-    pub answers: [u64; 13],
-}
-
-impl Met {
-    fn answer(&mut self, number: u32) {
-        self.answers[number as usize] += 1;
-    }
-
-    pub fn add(&mut self, other: &Met) {
-        self.records += other.records;
-        self.accepted += other.accepted;
-        for (sum, more) in self.answers.iter_mut().zip(other.answers) {
-            *sum += more;
-        }
-    }
-
-    /// The refusals of the paper's table that were not met.
-    pub fn missing(&self) -> Vec<usize> {
-        (1..=12).filter(|&number| self.answers[number] == 0).collect()
-    }
-
-    pub fn report(&self) -> String {
-        let refusals: Vec<String> =
-            (1..=12).map(|number| format!("{number}: {}", self.answers[number])).collect();
-        format!("{} records, {} accepted; refusals {}", self.records, self.accepted, refusals.join(", "))
-    }
-}
 
 /// One state on each side, and where the comparison stands.
 struct Pair {
@@ -79,6 +49,48 @@ impl Pair {
         (0..272).for_each(|i| self.same(&format!("{what}: set {i}"), x.in_transit[i], y.in_transit[i]));
     }
 
+    /// Both sides go on from this state.
+    fn put(&mut self, bench: &Bench) {
+        (self.proved, self.plain) = (*bench, *bench);
+    }
+
+    /// Round and byte in `decided` of each process.
+    fn bytes(&self) -> [(u8, u8); Bench::MAX] {
+        std::array::from_fn(|i| (self.proved.processes[i].round, self.proved.processes[i].decided))
+    }
+
+    /// After a record: 1 where it has decided a process, else as before. A close that decides opens no round; a decision
+    /// that arrives decides one that has started.
+    fn same_bytes(&self, before: &[(u8, u8); Bench::MAX], record: &[u8], accepted: bool) {
+        for (i, &(round, byte)) in before.iter().enumerate() {
+            let p = &self.proved.processes[i];
+            let named = |place: usize| accepted && record[place] as usize == i + 1;
+            let closed = named(1) && record[0] == 4 && p.round == round;
+            let told = named(2) && record[0] == 3 && record[3] == 0 && round != 0;
+            let rule = if byte == 0 && (closed || told) { 1 } else { byte };
+            self.by_rule(i, byte, rule);
+        }
+    }
+
+    fn by_rule(&self, i: usize, before: u8, rule: u8) {
+        let after = self.proved.processes[i].decided;
+        if after != rule {
+            let place = format!("{}, call {}", self.place, self.calls);
+            panic!("{place}: byte of process {i}: {before} became {after}, by the rule {rule}");
+        }
+    }
+
+    /// Counts the byte in `decided` of the process that acts, for a record that passed checks 2 to 5.
+    fn count_byte(&mut self, before: &[(u8, u8); Bench::MAX], record: &[u8], answer: u8) {
+        if matches!(answer, 2..=5) {
+            return;
+        }
+        let event = Record::read(record).and_then(|record| record.event(self.plain.n, self.plain.t));
+        if let Ok(event) = event {
+            self.met.bytes.count(call(event), usize::from(answer != 0), before[event.actor()].1);
+        }
+    }
+
     /// One record, with tallies that are sometimes near their end.
     fn step(&mut self, record: &[u8], rng: &mut Rng) -> u8 {
         if rng.percent(3) {
@@ -86,12 +98,15 @@ impl Pair {
             let tally = Counters { accepted: near(rng), refused: near(rng), crashes: near(rng) };
             (self.proved_tally, self.plain_tally) = (tally, tally);
         }
+        let before = self.bytes();
         let proved = proved::step(&mut self.proved, record, &mut self.proved_tally);
         let plain = self.plain.step_counted(record, &mut self.plain_tally);
         self.calls += 1;
         self.same("answer", proved, plain as u32);
         self.same("tally", self.proved_tally, self.plain_tally);
         self.same_state("state after a record");
+        self.same_bytes(&before, record, plain == 0);
+        self.count_byte(&before, record, plain);
         self.met.records += 1;
         self.met.accepted += u64::from(plain == 0);
         self.met.answer(plain as u32);
@@ -100,11 +115,17 @@ impl Pair {
 
     /// One run; gives what is left.
     fn run<'a>(&mut self, schedule: &'a [u8], budget: u32) -> (Cause, &'a [u8]) {
+        let before = self.bytes();
         let proved = proved::run(&mut self.proved, schedule, budget);
         let plain = self.plain.run(schedule, budget);
         self.calls += 1;
         self.same("run", (proved.0, proved.1, proved.2.len()), (plain.0, plain.1, plain.2.len()));
         self.same_state("state after a run");
+        for (i, (_, byte)) in before.into_iter().enumerate() {
+            // 0 may have become 1.
+            let rule = if byte == 0 { self.proved.processes[i].decided.min(1) } else { byte };
+            self.by_rule(i, byte, rule);
+        }
         self.met.records += plain.0 as u64;
         self.met.accepted += plain.0 as u64;
         if let Cause::Refused(refused) = plain.1 {
@@ -132,24 +153,29 @@ impl Pair {
     fn show(&mut self, rng: &mut Rng) {
         for process in (0..=self.plain.n.min(16) + 1).chain([255]) {
             let length = rng.below(self.plain.n.min(16) as usize + 3);
-            let before: Vec<u32> = (0..length).map(|_| rng.draw() as u32).collect();
-            let (mut proved_out, mut plain_out) = (before.clone(), before);
-            let proved = proved::global_data(&self.proved, process, &mut proved_out);
-            let plain = self.plain.global_data(process, &mut plain_out);
-            self.calls += 1;
-            self.met.answer(number(&plain));
-            self.same("marks", proved, plain.map_err(|refusal| refusal.number() as u32));
-            self.same("entries", &proved_out, &plain_out);
-            if let Ok(marks) = plain {
-                let n = self.plain.n;
-                self.aggregates(rng, n, &plain_out[..n as usize], marks);
-            }
+            self.show_one(process, length, rng);
         }
     }
 
-    /// The list in transit, in a slice long or short.
-    fn list(&mut self, rng: &mut Rng) {
-        let length = rng.pick(&[0, 3, 100, 1000, 3 * 16 * 16 * 17]);
+    /// The global data of one, in a slice of this length; gives its refusal or 0.
+    fn show_one(&mut self, process: u8, length: usize, rng: &mut Rng) -> u32 {
+        let before: Vec<u32> = (0..length).map(|_| rng.draw() as u32).collect();
+        let (mut proved_out, mut plain_out) = (before.clone(), before);
+        let proved = proved::global_data(&self.proved, process, &mut proved_out);
+        let plain = self.plain.global_data(process, &mut plain_out);
+        self.calls += 1;
+        self.met.answer(number(&plain));
+        self.same("marks", proved, plain.map_err(|refusal| refusal.number() as u32));
+        self.same("entries", &proved_out, &plain_out);
+        if let Ok(marks) = plain {
+            let n = self.plain.n;
+            self.aggregates(rng, n, &plain_out[..n as usize], marks);
+        }
+        number(&plain)
+    }
+
+    /// The list in transit, in a slice of this length; gives its refusal or 0.
+    fn list(&mut self, length: usize, rng: &mut Rng) -> u32 {
         let before: Vec<u8> = (0..length).map(|_| rng.draw() as u8).collect();
         let (mut proved_out, mut plain_out) = (before.clone(), before);
         let proved = proved::in_transit(&self.proved, &mut proved_out);
@@ -158,11 +184,62 @@ impl Pair {
         self.met.answer(number(&plain));
         self.same("messages", proved, plain.map_err(|refusal| refusal.number() as u32));
         self.same("list", &proved_out, &plain_out);
+        number(&plain)
+    }
+
+    /// A record by the call for one and by run, on the same state, where `byte` is that of the process that acts.
+    fn each_way(&mut self, bench: &Bench, (record, telling): &Chosen, byte: u8, rng: &mut Rng) {
+        self.put(bench);
+        self.step(&record.bytes(), rng);
+        self.put(bench);
+        let (cause, _) = self.run(&record.bytes(), u32::MAX);
+        self.met.bytes.count(RUN, usize::from(cause != Cause::Done), byte);
+        if let Some(call) = *telling {
+            self.met.bytes.count(call, TELLING, byte);
+            self.met.bytes.count(RUN, TELLING, byte);
+        }
+    }
+
+    /// Global data of process a and the list in transit, in slices long enough and too short.
+    fn read_each_way(&mut self, bench: &Bench, a: usize, byte: u8, rng: &mut Rng) {
+        self.put(bench);
+        for length in [bench.n as usize, bench.n as usize - 1] {
+            let refused = self.show_one(a as u8 + 1, length, rng);
+            self.met.bytes.count(GLOBAL_DATA, usize::from(refused != 0), byte);
+        }
+        self.met.bytes.count(GLOBAL_DATA, TELLING, byte);
+        let messages = bench.in_transit.iter().map(|set| set.count_ones() as usize).sum::<usize>();
+        for length in [3 * messages, (3 * messages).saturating_sub(1), 2] {
+            let refused = self.list(length, rng);
+            self.met.bytes.count(IN_TRANSIT, usize::from(refused != 0), byte);
+        }
+        self.same_state("state after reading");
+    }
+
+    /// The records in turn by runs; and once more, each alone with one that is accepted after it.
+    fn one_after_another(
+        &mut self,
+        bench: &Bench,
+        records: &[Chosen],
+        adversary: &mut Adversary,
+        rng: &mut Rng,
+    ) {
+        let schedule: Vec<u8> = records.iter().flat_map(|(record, _)| record.bytes()).collect();
+        self.put(bench);
+        self.runs(&schedule, rng);
+        self.put(bench);
+        for (record, _) in records {
+            self.step(&record.bytes(), rng);
+            if let Some(record) = adversary.accepted(&self.plain) {
+                self.step(&record.bytes(), rng);
+            }
+        }
+        self.reads(rng);
     }
 
     fn reads(&mut self, rng: &mut Rng) {
         self.show(rng);
-        self.list(rng);
+        self.list(rng.pick(&[0, 3, 100, 1000, 3 * 16 * 16 * 17]), rng);
         self.same_state("state after reading");
     }
 
@@ -259,6 +336,91 @@ pub fn other_states(n: u8, t: u8, seed: u64) -> Met {
     pair.run(&[], 0);
     pair.reads(&mut rng);
     pair.met
+}
+
+/// Sizes, and how often over all of them, for `decided_bytes`.
+const SIZES: [(u8, u8); 10] =
+    [(1, 0), (2, 0), (2, 1), (3, 1), (3, 2), (4, 3), (5, 2), (8, 7), (12, 4), (16, 15)];
+const LEAST: usize = 3;
+const MOST: usize = 12;
+
+/// Every byte in `decided`, on a reached state and another of each size, `LEAST` times and until each call has met each
+/// byte, but not more than `MOST` times.
+pub fn decided_bytes(seed: u64) -> Met {
+    let mut rng = Rng::new(seed ^ 0xdec1ded);
+    let mut met = Met::default();
+    for round in 1..=MOST {
+        for (n, t) in SIZES {
+            let place = format!("seed {seed}, n {n}, t {t}, bytes in decided, time {round}");
+            let junk = rng.percent(50);
+            let reached = gen::reached_state(&mut rng, n, t);
+            met.add(&each_byte(&reached, &mut rng, format!("{place}, reached")));
+            let other = gen::random_state(&mut rng, n, t, junk);
+            met.add(&each_byte(&other, &mut rng, format!("{place}, other")));
+        }
+        if round >= LEAST && met.bytes.missing().is_empty() {
+            break;
+        }
+    }
+    met
+}
+
+/// One process of a state with each byte in its `decided`, and any bytes in the others': every call on that state, then
+/// records one after another.
+fn each_byte(state: &Bench, rng: &mut Rng, place: String) -> Met {
+    let running: Vec<usize> = members(state.everyone() & !state.crashed).collect();
+    let any = rng.below(state.n as usize);
+    let a = if running.is_empty() { any } else { rng.pick(&running) };
+    let chosen = chosen(state, a, rng);
+    let mut pair = Pair::new(*state, format!("{place}, process {a}"));
+    let mut adversary = Adversary::new(rng.draw());
+    for byte in 0..=255 {
+        let mut bench = *state;
+        for p in &mut bench.processes {
+            let draw = rng.draw();
+            p.decided = if draw % 2 == 0 { p.decided } else { (draw >> 8) as u8 };
+        }
+        bench.processes[a].decided = byte;
+        for record in &chosen {
+            pair.each_way(&bench, record, byte, rng);
+        }
+        pair.read_each_way(&bench, a, byte, rng);
+        pair.one_after_another(&bench, &chosen, &mut adversary, rng);
+    }
+    pair.met
+}
+
+/// A record, and where more than the byte differs with 0 and with 1 in `decided`, its telling call.
+type Chosen = (Record, Option<usize>);
+
+/// Well-formed records in which process a acts: one for each call and each pair of answers with 0 and with 1 in its
+/// `decided`.
+fn chosen(state: &Bench, a: usize, rng: &mut Rng) -> Vec<Chosen> {
+    let mut records = gen::well_formed(state.n, state.t);
+    let middle = rng.below(records.len());
+    records.rotate_left(middle);
+    let mut chosen = BTreeMap::new();
+    for record in records {
+        match record.event(state.n, state.t) {
+            Ok(event) if event.actor() == a => {
+                let (with_0, with_1) = (outcome(state, a, 0, record), outcome(state, a, 1, record));
+                let told = if with_0.0 == 8 { WAITING } else { call(event) };
+                let telling = (with_0 != with_1).then_some(told);
+                chosen.entry((call(event), with_0.0, with_1.0, telling)).or_insert((record, telling));
+            }
+            _ => {}
+        }
+    }
+    chosen.into_values().collect()
+}
+
+/// The answer with this byte in `decided` of process a, and the state after it but for that byte.
+fn outcome(state: &Bench, a: usize, byte: u8, record: Record) -> (u8, Bench) {
+    let mut bench = *state;
+    bench.processes[a].decided = byte;
+    let answer = bench.step_sound(&record.bytes());
+    bench.processes[a].decided = 0;
+    (answer, bench)
 }
 
 /// Aggregates of any n, entries and marks.

@@ -11,6 +11,8 @@ pub mod explore;
 pub mod gen;
 pub mod layout;
 #[cfg(feature = "proved")]
+pub mod met;
+#[cfg(feature = "proved")]
 pub mod proved;
 pub mod read;
 pub mod record;

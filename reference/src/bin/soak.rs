@@ -1,6 +1,7 @@
 //! `soak [minutes [seed]]`: the differential test with one seed after another.
 
-use reference::compare::{everything, Met};
+use reference::compare::{decided_bytes, everything};
+use reference::met::Met;
 use std::time::{Duration, Instant};
 
 fn main() {
@@ -12,6 +13,7 @@ fn main() {
     let mut seed = first;
     while clock.elapsed() < Duration::from_secs(60 * minutes) {
         met.add(&everything(seed, 1));
+        met.add(&decided_bytes(seed));
         seed += 1;
         println!("seeds {first} to {}: {}", seed - 1, met.report());
     }

@@ -1,0 +1,121 @@
+//! What the differential test has met, so that it can tell what it has not.
+
+use crate::{Event, Message};
+use std::ops::Range;
+
+/// What was met: records given, answers by their number, 0 for none refused, and bytes in `decided`.
+#[derive(Clone, Default, Debug)]
+pub struct Met {
+    pub records: u64,
+    pub accepted: u64,
+    pub answers: [u64; 13],
+    pub bytes: Bytes,
+}
+
+/// How often each byte in `decided` was met, by call and by what came of it, as in `CALLS`.
+#[derive(Clone, Debug)]
+pub struct Bytes(Vec<[[u64; 256]; 3]>);
+
+const ALL: Range<usize> = 0..256;
+const NONE: Range<usize> = 0..0;
+
+/// The calls that meet the byte of a process, and the bytes with which each can be accepted, refused and telling. A call
+/// is telling where 0 and 1 differ in more than the byte; a close of that kind is accepted with 0, or waits (refusal 8).
+const CALLS: [(&str, [Range<usize>; 3]); 11] = [
+    ("start", [ALL, ALL, NONE]),
+    ("send", [ALL, ALL, ALL]),
+    ("estimate", [ALL, ALL, ALL]),
+    ("decision", [ALL, ALL, ALL]),
+    ("close", [0..1, ALL, ALL]),
+    ("crash", [ALL, ALL, NONE]),
+    ("suspect", [ALL, ALL, NONE]),
+    ("run", [ALL, ALL, ALL]),
+    ("global data", [1..256, ALL, ALL]),
+    ("in transit", [ALL, ALL, NONE]),
+    ("waiting close", [NONE, NONE, ALL]),
+];
+pub const RUN: usize = 7;
+pub const GLOBAL_DATA: usize = 8;
+pub const IN_TRANSIT: usize = 9;
+pub const WAITING: usize = 10;
+
+/// Beside 0 for accepted and 1 for refused.
+pub const TELLING: usize = 2;
+
+/// The place in `CALLS` of a record's call.
+pub fn call(event: Event) -> usize {
+    match event {
+        Event::Start { .. } => 0,
+        Event::Send { .. } => 1,
+        Event::Arrive { message: Message::Estimate { .. }, .. } => 2,
+        Event::Arrive { message: Message::Decision, .. } => 3,
+        Event::Close { .. } => 4,
+        Event::Crash { .. } => 5,
+        Event::Suspect { .. } => 6,
+    }
+}
+
+impl Default for Bytes {
+    fn default() -> Bytes {
+        Bytes(vec![[[0; 256]; 3]; CALLS.len()])
+    }
+}
+
+impl Bytes {
+    pub fn count(&mut self, call: usize, outcome: usize, byte: u8) {
+        self.0[call][outcome][byte as usize] += 1;
+    }
+
+    fn add(&mut self, other: &Bytes) {
+        let sums = self.0.iter_mut().flatten().flatten();
+        sums.zip(other.0.iter().flatten().flatten()).for_each(|(sum, more)| *sum += more);
+    }
+
+    /// The bytes that could be met and were not, as call, outcome and byte.
+    pub fn missing(&self) -> Vec<(&'static str, usize, usize)> {
+        let mut missing = Vec::new();
+        for ((name, expected), met) in CALLS.iter().zip(&self.0) {
+            for outcome in 0..3 {
+                let bytes = expected[outcome].clone().filter(|&byte| met[outcome][byte] == 0);
+                missing.extend(bytes.map(|byte| (*name, outcome, byte)));
+            }
+        }
+        missing
+    }
+
+    /// How many bytes were met in each call: accepted, refused, telling.
+    pub fn report(&self) -> String {
+        let different = |counts: &[u64; 256]| counts.iter().filter(|&&count| count > 0).count();
+        let line = |((name, _), met): (&(&str, _), &[[u64; 256]; 3])| {
+            let [accepted, refused, telling] = [0, 1, 2].map(|outcome| different(&met[outcome]));
+            format!("{name} {accepted} {refused} {telling}")
+        };
+        CALLS.iter().zip(&self.0).map(line).collect::<Vec<String>>().join(", ")
+    }
+}
+
+impl Met {
+    pub fn answer(&mut self, number: u32) {
+        self.answers[number as usize] += 1;
+    }
+
+    pub fn add(&mut self, other: &Met) {
+        self.records += other.records;
+        self.accepted += other.accepted;
+        self.bytes.add(&other.bytes);
+        for (sum, more) in self.answers.iter_mut().zip(other.answers) {
+            *sum += more;
+        }
+    }
+
+    /// The refusals of the paper's table that were not met.
+    pub fn missing(&self) -> Vec<usize> {
+        (1..=12).filter(|&number| self.answers[number] == 0).collect()
+    }
+
+    pub fn report(&self) -> String {
+        let refusals: Vec<String> =
+            (1..=12).map(|number| format!("{number}: {}", self.answers[number])).collect();
+        format!("{} records, {} accepted; refusals {}", self.records, self.accepted, refusals.join(", "))
+    }
+}

@@ -1,7 +1,8 @@
 #!/bin/sh
 # Applies wrong edits of the rules, one at a time, to a copy under target/, and names the tests that fail.
 # Usage: ./mutations.sh [name...]            (from the package's directory)
-#        PROVED=1 ./mutations.sh [name...]   only the differential test with the proved library, which `make library` writes
+#        PROVED=1 ./mutations.sh [name...]   only the differential test with the proved library, which `make library` writes,
+#                                            or the one in PROVED_LIB_DIR
 set -eu
 only=" $* "
 place=target/mutations

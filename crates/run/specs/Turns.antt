@@ -11,13 +11,13 @@ use lib.ListN.{length, getD, set, take, drop, length-take, length-drop}
 use lib.Seq.{drop-drop}
 use Rattle.sets.specs.Each.{each, getD-each}
 use Rattle.sets.specs.Every.{every}
-use Rattle.sets.specs.Set.{has, insertOf}
+use Rattle.sets.specs.Set.{has, insertOf, removeOf}
 use Rattle.sets.specs.Truth.{_&&_, choose, and-l, Is, on, off, is, clash, choose-on, choose-off, or-none-l, same-not}
 use Rattle.global_data.specs.declared.GlobalData.{GlobalData}
 use Rattle.global_data.specs.GlobalData.{noData, fillOf, fillFrom, sameTo, allSame, rowsOf}
 use Rattle.process.specs.declared.Process.{Process}
 use Rattle.process.specs.Laws.{decide-decided}
-use Rattle.process.specs.Steps.{hasDecided, noProcess, openOf, startOf, peersOf, filledOf, agreedOf, decidesOf, decideOf, advanceOf, closeOf, messageOf}
+use Rattle.process.specs.Steps.{hasDecided, noProcess, openOf, startOf, peersOf, filledOf, agreedOf, decidesOf, decideOf, advanceOf, closeOf, messageOf, sendOf, suspectOf, receiveOf, adoptOf}
 use Rattle.bench.specs.declared.Bench.{Bench}
 use Rattle.bench.specs.declared.Refusal.{Refusal}
 use Rattle.bench.specs.declared.Message.{Message}
@@ -27,17 +27,17 @@ use Rattle.bench.specs.declared.Event.the-variants.{Start, Send, Arrive, Close,
 use Rattle.bench.specs.declared.Decoded.{Decoded}
 use Rattle.bench.specs.declared.Decoded.the-variants.{Got, Refused}
 use Rattle.bench.specs.declared.Cause.the-variants.{Empty, Spent, Refused as RefusedRun}
-use Rattle.bench.specs.State.{processAt, sentAt, transitAt, crashedAt, withProcess, withSent, withCrashed}
+use Rattle.bench.specs.State.{processAt, sentAt, transitAt, crashedAt, withProcess, withSent, withTransit, withCrashed}
 use Rattle.bench.specs.Sound.{soundOf}
 use Rattle.bench.specs.SoundLaws.{Bounds, sound-on, sound-step}
 use Rattle.bench.specs.Record.{decodeOf}
 use Rattle.bench.specs.RecordLaws.{messageIn, inRange, decode-size, decode-refused, decode-range}
 use Rattle.bench.specs.Refuse.{numberOf, actor, possible, ready, allowed, refuses, refusal}
 use Rattle.bench.specs.RefuseLaws.{check-zero, refusal-unread, refusal-event, accepted-effect}
-use Rattle.bench.specs.Effect.{opensRound, rowsAt, arrives, closesAs, effect, effectDecoded, effectOf}
+use Rattle.bench.specs.Effect.{opensRound, rowsAt, sends, arrives, closesAs, effect, effectDecoded, effectOf}
 use Rattle.bench.specs.Calls.{refused, endedOf, runFrom, runOf}
 use Rattle.bench.specs.RunLaws.{run-empty, run-spent, run-refused, run-accepted, run-sound}
-use Rattle.checks.specs.Checks.{firstOf, startCheck, messageCheck, closeCheck, crashCheck, suspectCheck, arrivedAs, takes-started}
+use Rattle.checks.specs.Checks.{firstOf, startCheck, messageCheck, closeCheck, crashCheck, suspectCheck, takes-started}
 
 -- ---- the loop's head: of the schedule l, `at` bytes are taken in `accepted` records, from b to s
 pub record Running (budget : ℕ) (l : List ℕ) (b s : Bench) (at accepted : ℕ) : Type 0 where
@@ -159,6 +159,9 @@ module _ {budget : ℕ} {l : List ℕ} {b s : Bench} {at accepted : ℕ} {d : De
   pub turn-round : (a : ℕ) → getD (s .processes) a noProcess .round ≤ s .t + 1
   turn-round a = omega (arith, turn-bounds .process a .round)
 
+  pub turn-last : (a : ℕ) → getD (s .processes) a noProcess .round ≤ 16
+  turn-last a = omega (arith, turn-sizes .1, turn-round a)
+
   pub turn-less : length l - (at + 8) < length l - at
   turn-less = omega (arith, w .whole)
 
@@ -179,6 +182,16 @@ message-low p h = go (is (hasDecided p))
     go : Is (hasDecided p) → choose (hasDecided p) 0 (p .round) ≤ 16
     go (on e) = rw (choose-on (hasDecided p) 0 (p .round) e) (omega arith)
     go (off e) = rw (choose-off (hasDecided p) 0 (p .round) e) h
+
+-- where the code looks: the row of round r + 1 of a, the row k places on from round r + 1, and message r of a, which is the definition's m
+pub slot-low : (a r : ℕ) → a < 16 → r < 16 → a * 16 + r < 256
+slot-low a r p q = omega arith
+
+pub row-low : (r k : ℕ) → r < 16 → k ≤ 240 → r + k < 256
+row-low r k p q = omega arith
+
+pub word-low : (a r m : ℕ) → a < 16 → r ≡ m → m ≤ 16 → a * 17 + r < 272
+word-low a r m p e q = omega arith
 
 -- ---- a close looks at the rows of the sixteen processes alone
 module _ (f g : ℕ → GlobalData) (h : (k : ℕ) → k < 16 → f k ≡ g k) where
@@ -212,9 +225,9 @@ module _ (n t a : ℕ) (rows : ℕ → GlobalData) (p : Process) where
       go (off d) = (rw (choose-off (decidesOf n t a rows p) _ (advanceOf a rows p) d), same-not _ _ (or-none-l _ _ d))
 
 -- a start opens round 1
-pub start-round : (n a v : ℕ) (p : Process) → startOf n a v p .round ≡ 1
+pub start-round : (n a v : ℕ) (p q : Process) → q ≡ startOf n a v p → (1 ≤ q .round) × (q .round ≤ 16)
 unfolding startOf openOf
-start-round n a v p = refl
+start-round n a v p q e = let r : q .round ≡ 1 = ap (λ (p : Process). p .round) e in omega arith
 
 -- a close that is let through is of a process that has started
 pub close-started : (crashed a : ℕ) (p : Process) → closeCheck crashed a p ≡ 0 → 1 ≤ p .round
@@ -277,11 +290,38 @@ module _ (s : Bench) where
   unfolding effect
   effect-start a v i p e h = opened-at a i p e ∙ ap (opensRound s a) h
 
-  pub effect-arrive : (a b : ℕ) (m : Message) → effect (Arrive a b m) s
-      ≡ arrives (withProcess s b (arrivedAs (s .n) b a m (processAt s a .estimate) (processAt s b))) a (numberOf m) b
-  unfolding effect arrivedAs numberOf
-  effect-arrive a b (Estimate r) = refl
-  effect-arrive a b Decision = refl
+  pub effect-suspect : (a b : ℕ) (p : Process) → p ≡ suspectOf b (processAt s a) → withProcess s a p ≡ effect (Suspect a b) s
+  unfolding effect
+  effect-suspect a b p h = ap (withProcess s a) h
+
+  -- process b is p now, and the word of message i of a is m
+  abbrev pub movedAt : ℕ → ℕ → ℕ → Process → ℕ → Bench
+  movedAt a i b p m =
+      record {
+        n = s .n;
+        t = s .t;
+        crashed = s .crashed;
+        processes = set (s .processes) b p;
+        sent = s .sent;
+        in_transit = set (s .in_transit) (a * 17 + i) m;
+      }
+
+  pub effect-send : (a b i m : ℕ) (p : Process) → i ≡ messageOf (processAt s a) → p ≡ sendOf b (processAt s a)
+      → m ≡ insertOf (transitAt s a i) b → movedAt a i a p m ≡ effect (Send a b) s
+  unfolding effect sends withProcess withTransit transitAt
+  effect-send a b i m p e h w = rw (w, e, h)
+
+  -- the message k of a arrives at b
+  pub effect-receive : (a b r i m : ℕ) (k : Message) (p : Process) → k ≡ Estimate r → i ≡ numberOf k
+      → p ≡ receiveOf a r (processAt s b) → m ≡ removeOf (transitAt s a i) b → movedAt a i b p m ≡ effect (Arrive a b k) s
+  unfolding effect arrives withProcess withTransit transitAt numberOf
+  effect-receive a b r i m k p q e h w = rw (w, e, q, h)
+
+  pub effect-adopt : (a b i m : ℕ) (k : Message) (p : Process) → k ≡ Decision → i ≡ numberOf k
+      → p ≡ adoptOf (s .n) b a (processAt s a .estimate) (processAt s b) → m ≡ removeOf (transitAt s a i) b
+      → movedAt a i b p m ≡ effect (Arrive a b k) s
+  unfolding effect arrives withProcess withTransit transitAt numberOf
+  effect-adopt a b i m k p q e h w = rw (w, e, q, h)
 
 -- the rows of round r + 1, as the code gathers them
 abbrev othersIn : List GlobalData → ℕ → List GlobalData
@@ -319,6 +359,8 @@ module _ (s : Bench) (a r : ℕ) (q : Process) (e : r ≡ processAt s a .round -
       opened-at s a i q j ∙ rw (← closed) (sym (choose-off (hasDecided q) (withProcess s a q) (opensRound s a q) d))
 
   -- the round that it opens
-  pub opened-round : hasDecided q ≡ false → (q .round ≡ processAt s a .round + 1) × (processAt s a .round ≢ s .t + 1)
-  opened-round d =
-      rw h (close-opens (s .n) (s .t) a (rowsOf (rowsIn (s .sent) r)) (processAt s a) (rw h at d))
+  pub opened-round : hasDecided q ≡ false → s .t < 16 → processAt s a .round ≤ s .t + 1 → (1 ≤ q .round) × (q .round ≤ 16)
+  opened-round d l m =
+      let o : (q .round ≡ processAt s a .round + 1) × (processAt s a .round ≢ s .t + 1) =
+      rw h (close-opens (s .n) (s .t) a (rowsOf (rowsIn (s .sent) r)) (processAt s a) (rw h at d)) in
+      omega (arith, o .1)

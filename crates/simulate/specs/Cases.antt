@@ -17,7 +17,7 @@ use Rattle.bench.specs.Refuse.{check, numberOf, actor, possible, ready, allowed
 use Rattle.bench.specs.Effect.{opensRound, rowsAt, sends, arrives, closesAs, effect, effectDecoded, effectOf}
 use Rattle.bench.specs.Calls.{openOf as openBench, after, joined}
 use Rattle.bench.specs.RunLaws.{restOf, recordAt, steps}
-use Rattle.simulate.specs.Text.{digits, decimal, field, lineOf, entryText, processText, processesText}
+use Rattle.text.specs.Text.{digits, decimal, field, lineOf, entryText, processText, processesText}
 use Rattle.simulate.specs.Output.{openingRefusal, unopened, openingOf, recordsIn, answerAt, lineAt, linesOf, afterAll, writtenAfter, outputOf}
 
 -- the opening record and the twelve

@@ -2,5 +2,3 @@ pub mod Cases
 pub mod LinesLaws
 pub mod OpeningLaws
 pub mod Output
-pub mod Text
-pub mod TextLaws

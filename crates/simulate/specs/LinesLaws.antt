@@ -19,7 +19,7 @@ use Rattle.bench.specs.Refuse.{refusal}
 use Rattle.bench.specs.RefuseLaws.{refusal-damaged, refused-keeps}
 use Rattle.bench.specs.Calls.{refused, after, joined, endedOf, runFrom, runOf}
 use Rattle.bench.specs.RunLaws.{run-damaged, run-sound, run-refused, restOf, recordAt, steps, Why, Runs, runs, sound-steps}
-use Rattle.simulate.specs.Text.{lineOf, processesText}
+use Rattle.text.specs.Text.{lineOf, processesText}
 use Rattle.simulate.specs.Output.{recordsIn, answerAt, lineAt, linesOf, afterAll}
 
 -- ---- joined lists

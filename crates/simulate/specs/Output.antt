@@ -13,7 +13,7 @@ use Rattle.bench.specs.Record.{wordOf}
 use Rattle.bench.specs.Refuse.{check, refusal}
 use Rattle.bench.specs.Calls.{refused, joined, openOf}
 use Rattle.bench.specs.RunLaws.{steps, recordAt}
-use Rattle.simulate.specs.Text.{lineOf, processesText}
+use Rattle.text.specs.Text.{lineOf, processesText}
 
 -- ---- the opening record: 3, 4 (kind not 0), 5 (r or value not 0), or 0
 unfoldable pub openingRefusal : List ℕ → ℕ

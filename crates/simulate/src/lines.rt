@@ -1,14 +1,14 @@
 // The lines of the records: each one's number, and 0 or the refusal.
-use crate::text::put_line;
 use bench::Bench;
 use bench::Cause;
 use run::run_bytes;
+use text::line::put_line;
 ghost use mathlib.Core.Path.{_≡_};
 ghost use mathlib.Core.List.{_++_};
 ghost use Prim.Native.Nat.{_+_, _*_, _^_, _≤_, _<_};
 ghost use lib.ListN.{length, drop};
 ghost use Rattle.simulate.specs.Output.{recordsIn, linesOf, afterAll};
-ghost use Rattle.simulate.specs.TextLaws.{Puts};
+ghost use Rattle.text.specs.TextLaws.{Puts};
 ghost use Rattle.simulate.specs.LinesLaws.{refusedIn, causeText, acceptedText};
 
 // The bench after some records, and the end of their lines.

@@ -1,15 +1,13 @@
 // Runs a bench from standard input: the opening record, then a line for each record, then a line for each process.
 mod lines;
 mod opening;
-mod processes;
-mod text;
 
 use crate::lines::lines;
 use crate::opening::opening;
-use crate::processes::put_processes;
-use crate::text::put_line;
 use bench::Answer;
 use bench::Bench;
+use text::line::put_line;
+use text::processes::put_processes;
 ghost use mathlib.Core.Path.{_≡_};
 ghost use mathlib.Core.Bool.{true};
 ghost use mathlib.Core.List.{_++_};

@@ -9,7 +9,7 @@ use Rattle.bench.specs.Calls.{joined}
 use Rattle.bench.specs.RunLaws.{steps}
 use Rattle.bench.specs.TransitLaws.{stores-front}
 use Rattle.simulate.specs.Output.{recordsIn, lineAt, linesOf, afterAll}
-use Rattle.simulate.specs.TextLaws.{Puts, puts-none, puts-length, stores-then}
+use Rattle.text.specs.TextLaws.{Puts, puts-none, puts-length, stores-then}
 use Rattle.simulate.specs.LinesLaws.{refusedIn, Taken, taken-part}
 use Rattle.simulate.proofs.lines.lines.Statement.{statement}
 use Rattle.simulate.proofs.lines.lines.Tie as tie

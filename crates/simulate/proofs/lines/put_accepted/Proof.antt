@@ -3,8 +3,8 @@ use mathlib.Core.Path.{_≡_}
 use Prim.Native.Nat.{_+_, _-_, _*_, _≤_}
 use borrow.Author.Needs.{needs}
 use Rattle.bench.specs.Calls.{joined}
-use Rattle.simulate.specs.Text.{lineOf}
-use Rattle.simulate.specs.TextLaws.{Puts, puts-none, puts-length, puts-more, puts-room}
+use Rattle.text.specs.Text.{lineOf}
+use Rattle.text.specs.TextLaws.{Puts, puts-none, puts-length, puts-more, puts-room}
 use Rattle.simulate.specs.LinesLaws.{acceptedText}
 use Rattle.simulate.proofs.lines.put_accepted.Statement.{statement}
 use Rattle.simulate.proofs.lines.put_accepted.Tie as tie

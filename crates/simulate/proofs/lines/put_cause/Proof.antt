@@ -1,7 +1,7 @@
 -- `put_cause` stores a line where a run refused a record, and nothing else. By the cause.
 use native.Mathlib.Omega.{arith}
 use borrow.Author.Needs.{needs}
-use Rattle.simulate.specs.TextLaws.{puts-none}
+use Rattle.text.specs.TextLaws.{puts-none}
 use Rattle.simulate.specs.LinesLaws.{refusedIn, causeText}
 use Rattle.simulate.proofs.lines.put_cause.Statement.{statement}
 use Rattle.simulate.proofs.lines.put_cause.Tie as tie

@@ -2,10 +2,10 @@
 use native.Mathlib.Omega.{arith}
 use borrow.Author.Needs.{needs}
 use Rattle.sets.specs.Truth.{choose}
-use Rattle.simulate.specs.Text.{entryText}
-use Rattle.simulate.specs.TextLaws.{stores-then}
-use Rattle.simulate.proofs.processes.put_entry.Statement.{statement}
-use Rattle.simulate.proofs.processes.put_entry.Tie as tie
+use Rattle.text.specs.Text.{entryText}
+use Rattle.text.specs.TextLaws.{stores-then}
+use Rattle.text.proofs.processes.put_entry.Statement.{statement}
+use Rattle.text.proofs.processes.put_entry.Tie as tie
 
 put-field-requires : tie.Need-put-field-requires
 put-field-requires c κs = search needs

@@ -3,8 +3,8 @@ ghost use mathlib.Core.List.{[], _∷_};
 ghost use Prim.Native.Nat.{_+_, _≤_, _<_};
 ghost use lib.ListN.{length};
 ghost use Rattle.bench.specs.TransitLaws.{Stores};
-ghost use Rattle.simulate.specs.Text.{decimal, field, lineOf};
-ghost use Rattle.simulate.specs.TextLaws.{Puts};
+ghost use Rattle.text.specs.Text.{decimal, field, lineOf};
+ghost use Rattle.text.specs.TextLaws.{Puts};
 
 pub fn put_byte(out: &mut [u8], at: usize, b: u8) -> usize
     requires { ⌜ at < length (now out) ⌝ }

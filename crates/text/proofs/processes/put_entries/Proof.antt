@@ -6,10 +6,10 @@ use borrow.Author.Needs.{needs}
 use Rattle.global_data.specs.declared.GlobalData.{GlobalData}
 use Rattle.global_data.specs.GlobalData.{entryOf}
 use Rattle.bench.specs.Calls.{joined}
-use Rattle.simulate.specs.Text.{entryText}
-use Rattle.simulate.specs.TextLaws.{Puts, puts-none, puts-length, puts-more, puts-room}
-use Rattle.simulate.proofs.processes.put_entries.Statement.{statement}
-use Rattle.simulate.proofs.processes.put_entries.Tie as tie
+use Rattle.text.specs.Text.{entryText}
+use Rattle.text.specs.TextLaws.{Puts, puts-none, puts-length, puts-more, puts-room}
+use Rattle.text.proofs.processes.put_entries.Statement.{statement}
+use Rattle.text.proofs.processes.put_entries.Tie as tie
 
 abbrev textOf : GlobalData → ℕ → List ℕ
 textOf g k = entryText (entryOf g k)

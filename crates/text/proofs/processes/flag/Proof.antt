@@ -1,7 +1,7 @@
 -- By the test.
 use Rattle.sets.specs.Count.{bit}
-use Rattle.simulate.proofs.processes.flag.Statement.{statement}
-use Rattle.simulate.proofs.processes.flag.Tie as tie
+use Rattle.text.proofs.processes.flag.Statement.{statement}
+use Rattle.text.proofs.processes.flag.Tie as tie
 
 returns : tie.Need-returns
 unfolding bit

@@ -1,10 +1,10 @@
 -- `put_process` stores the parts of the line one after another.
 use native.Mathlib.Omega.{arith}
 use borrow.Author.Needs.{needs}
-use Rattle.simulate.specs.Text.{processText}
-use Rattle.simulate.specs.TextLaws.{stores-then}
-use Rattle.simulate.proofs.processes.put_process.Statement.{statement}
-use Rattle.simulate.proofs.processes.put_process.Tie as tie
+use Rattle.text.specs.Text.{processText}
+use Rattle.text.specs.TextLaws.{stores-then}
+use Rattle.text.proofs.processes.put_process.Statement.{statement}
+use Rattle.text.proofs.processes.put_process.Tie as tie
 
 has-decided-requires : tie.Need-has-decided-requires
 has-decided-requires c κs = search needs

@@ -5,13 +5,13 @@ use native.Mathlib.Omega.{arith}
 use lib.ListN.{length}
 use borrow.Fn.Kinds.{In}
 use borrow.Fn.PlainCycle.{Measures, is, falls, and}
-use Rattle.simulate.specs.TextLaws.{decimal-low, decimal-more, length-more, stores-then}
-use Rattle.simulate.proofs.text.put_number.Reads as put-number
-use Rattle.simulate.proofs.text.put_number.Kinds as put-number-kinds
-use Rattle.simulate.proofs.text.+put_number.Lts-put_number as put-number-lts
-use Rattle.simulate.proofs.text.put_byte.Reads as put-byte-reads
-use Rattle.simulate.proofs.text.+put_number.{statement}
-use Rattle.simulate.proofs.text.+put_number.Tie.{close}
+use Rattle.text.specs.TextLaws.{decimal-low, decimal-more, length-more, stores-then}
+use Rattle.text.proofs.line.put_number.Reads as put-number
+use Rattle.text.proofs.line.put_number.Kinds as put-number-kinds
+use Rattle.text.proofs.line.+put_number.Lts-put_number as put-number-lts
+use Rattle.text.proofs.line.put_byte.Reads as put-byte-reads
+use Rattle.text.proofs.line.+put_number.{statement}
+use Rattle.text.proofs.line.+put_number.Tie.{close}
 
 abbrev μ-put-number : Measures 1 put-number-kinds.ps ℕ
 μ-put-number κs a = a .1 .1 .0

@@ -1,6 +1,6 @@
 // The lines of the processes: `T`, number, round, stopped, decided, and the entries of the estimate, which is the decision once it is taken.
-use crate::text::put_byte;
-use crate::text::put_field;
+use crate::line::put_byte;
+use crate::line::put_field;
 use bench::Bench;
 use global_data::GlobalData;
 use process::Process;
@@ -11,8 +11,8 @@ ghost use lib.ListN.{length, drop};
 ghost use Rattle.sets.specs.Count.{bit};
 ghost use Rattle.global_data.specs.GlobalData.{entry, entryOf};
 ghost use Rattle.bench.specs.Calls.{joined};
-ghost use Rattle.simulate.specs.Text.{entryText, processText, processesText};
-ghost use Rattle.simulate.specs.TextLaws.{Puts};
+ghost use Rattle.text.specs.Text.{entryText, processText, processesText};
+ghost use Rattle.text.specs.TextLaws.{Puts};
 
 fn put_entry(out: &mut [u8], at: usize, present: bool, value: u32) -> usize
     requires { ⌜ at + 11 ≤ length (now out) ⌝ }

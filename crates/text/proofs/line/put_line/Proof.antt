@@ -1,10 +1,10 @@
 -- `put_line` stores the number, of at most twenty digits, the refusal after a space, and the end of the line.
 use native.Mathlib.Omega.{arith}
 use borrow.Author.Needs.{needs}
-use Rattle.simulate.specs.Text.{lineOf}
-use Rattle.simulate.specs.TextLaws.{stores-then, long-number}
-use Rattle.simulate.proofs.text.put_line.Statement.{statement}
-use Rattle.simulate.proofs.text.put_line.Tie as tie
+use Rattle.text.specs.Text.{lineOf}
+use Rattle.text.specs.TextLaws.{stores-then, long-number}
+use Rattle.text.proofs.line.put_line.Statement.{statement}
+use Rattle.text.proofs.line.put_line.Tie as tie
 
 put-number-requires : tie.Need-put-number-requires
 put-number-requires c κs = omega (arith, c .before .before .pre, long-number (c .before .before .args .k) (c .before .before .fits .k .fits))

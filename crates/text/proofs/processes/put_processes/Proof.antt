@@ -9,10 +9,10 @@ use Rattle.bench.specs.declared.Bench.{Bench}
 use Rattle.bench.specs.State.{processAt, crashedAt}
 use Rattle.bench.specs.Calls.{joined}
 use Rattle.bench.specs.TransitLaws.{stores-front}
-use Rattle.simulate.specs.Text.{processText, processesText}
-use Rattle.simulate.specs.TextLaws.{Puts, puts-none, puts-length, puts-more, puts-room}
-use Rattle.simulate.proofs.processes.put_processes.Statement.{statement}
-use Rattle.simulate.proofs.processes.put_processes.Tie as tie
+use Rattle.text.specs.Text.{processText, processesText}
+use Rattle.text.specs.TextLaws.{Puts, puts-none, puts-length, puts-more, puts-room}
+use Rattle.text.proofs.processes.put_processes.Statement.{statement}
+use Rattle.text.proofs.processes.put_processes.Tie as tie
 
 abbrev textOf : Bench → ℕ → List ℕ
 textOf s a = processText (s .n) a (crashedAt s a) (processAt s a)

@@ -10,7 +10,7 @@ use lib.ListN.{length, set, length-append}
 use Rattle.sets.specs.Truth.{choose-on, choose-off, below-mk, below-off, le-or}
 use Rattle.bench.specs.Calls.{joined}
 use Rattle.bench.specs.TransitLaws.{Stores, stores-none, stores-length, stores-more}
-use Rattle.simulate.specs.Text.{digits, decimal}
+use Rattle.text.specs.Text.{digits, decimal}
 
 -- ---- digits
 digits-low : (k x : ℕ) → x < 10 → digits (suc k) x ≡ (48 + x) ∷ []

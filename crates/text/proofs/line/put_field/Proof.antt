@@ -1,10 +1,10 @@
 -- `put_field` stores a space and the digits, of which there are at most ten.
 use native.Mathlib.Omega.{arith}
 use borrow.Author.Needs.{needs}
-use Rattle.simulate.specs.Text.{field}
-use Rattle.simulate.specs.TextLaws.{stores-then, short-number}
-use Rattle.simulate.proofs.text.put_field.Statement.{statement}
-use Rattle.simulate.proofs.text.put_field.Tie as tie
+use Rattle.text.specs.Text.{field}
+use Rattle.text.specs.TextLaws.{stores-then, short-number}
+use Rattle.text.proofs.line.put_field.Statement.{statement}
+use Rattle.text.proofs.line.put_field.Tie as tie
 
 put-byte-requires : tie.Need-put-byte-requires
 put-byte-requires c κs = search needs

@@ -4,11 +4,11 @@
 use mathlib.Core.Path.{_≡_, refl, sym, ap, _∙_}
 use mathlib.Core.Bool.{true}
 use mir.Syntax.{w64}
-use Prim.Native.Nat.{_+_, _-_, _*_, _≤_, _<_}
+use Prim.Native.Nat.{ℕ, _+_, _-_, _*_, _≤_, _<_}
 use native.Mathlib.Nat.{lt-trans}
 use native.Mathlib.Omega.{arith}
 use lib.ListN.{length, getD, length-map}
-use lib.Dec.{lit<, lit≤}
+use lib.Dec.{T, leb, lit<, lit≤}
 use borrow.Author.Needs.{needs, fits-under, scaled-fits}
 use Rattle.sets.specs.Truth.{not-on, not-off}
 use Rattle.global_data.specs.GlobalData.{noData, rowsOf}
@@ -485,6 +485,10 @@ returns-9 c =
 round-index-requires-2 : tie.Need-round-index-requires-2 Inv-loop μ-loop Inv-loop2 μ-loop2
 round-index-requires-2 c κs = close-round c
 
+-- the row that lies k places on
+row-at : (c : tie.After-round-index2 Inv-loop μ-loop Inv-loop2 μ-loop2) (k : ℕ) → T (leb k 240) → c .round-index2 .result + k < 256
+row-at c k t = row-low _ k (c .round-index2 .ensures .1) (lit≤ t)
+
 mul-t130 : tie.Need-mul-t130 Inv-loop μ-loop Inv-loop2 μ-loop2
 mul-t130 c = scaled-fits _ 16 _ (c .round-index2 .ensures .1) (lit< tt)
 
@@ -492,139 +496,139 @@ element-copy-out-t138 : tie.Need-element-copy-out-t138 Inv-loop μ-loop Inv-loop
 element-copy-out-t138 c = lt-trans (c .round-index2 .ensures .1) (lit< tt)
 
 add-t139 : tie.Need-add-t139 Inv-loop μ-loop Inv-loop2 μ-loop2
-add-t139 c = fits-under w64 _ 256 (row-low _ _ (c .before .round-index2 .ensures .1) (lit≤ tt)) tt
+add-t139 c = fits-under w64 _ 256 (row-at (c .before) 16 tt) tt
 
 mul-t140 : tie.Need-mul-t140 Inv-loop μ-loop Inv-loop2 μ-loop2
-mul-t140 c = scaled-fits _ 256 _ (row-low _ _ (c .before .round-index2 .ensures .1) (lit≤ tt)) (lit< tt)
+mul-t140 c = scaled-fits _ 256 _ (row-at (c .before) 16 tt) (lit< tt)
 
 element-copy-out-t143 : tie.Need-element-copy-out-t143 Inv-loop μ-loop Inv-loop2 μ-loop2
-element-copy-out-t143 c = row-low _ _ (c .before .round-index2 .ensures .1) (lit≤ tt)
+element-copy-out-t143 c = row-at (c .before) 16 tt
 
 add-t144 : tie.Need-add-t144 Inv-loop μ-loop Inv-loop2 μ-loop2
-add-t144 c = fits-under w64 _ 256 (row-low _ _ (c .before .before .round-index2 .ensures .1) (lit≤ tt)) tt
+add-t144 c = fits-under w64 _ 256 (row-at (c .before .before) 32 tt) tt
 
 mul-t145 : tie.Need-mul-t145 Inv-loop μ-loop Inv-loop2 μ-loop2
-mul-t145 c = scaled-fits _ 256 _ (row-low _ _ (c .before .before .round-index2 .ensures .1) (lit≤ tt)) (lit< tt)
+mul-t145 c = scaled-fits _ 256 _ (row-at (c .before .before) 32 tt) (lit< tt)
 
 element-copy-out-t148 : tie.Need-element-copy-out-t148 Inv-loop μ-loop Inv-loop2 μ-loop2
-element-copy-out-t148 c = row-low _ _ (c .before .before .round-index2 .ensures .1) (lit≤ tt)
+element-copy-out-t148 c = row-at (c .before .before) 32 tt
 
 add-t149 : tie.Need-add-t149 Inv-loop μ-loop Inv-loop2 μ-loop2
-add-t149 c = fits-under w64 _ 256 (row-low _ _ (c .before .before .before .round-index2 .ensures .1) (lit≤ tt)) tt
+add-t149 c = fits-under w64 _ 256 (row-at (c .before .before .before) 48 tt) tt
 
 mul-t150 : tie.Need-mul-t150 Inv-loop μ-loop Inv-loop2 μ-loop2
-mul-t150 c = scaled-fits _ 256 _ (row-low _ _ (c .before .before .before .round-index2 .ensures .1) (lit≤ tt)) (lit< tt)
+mul-t150 c = scaled-fits _ 256 _ (row-at (c .before .before .before) 48 tt) (lit< tt)
 
 element-copy-out-t153 : tie.Need-element-copy-out-t153 Inv-loop μ-loop Inv-loop2 μ-loop2
-element-copy-out-t153 c = row-low _ _ (c .before .before .before .round-index2 .ensures .1) (lit≤ tt)
+element-copy-out-t153 c = row-at (c .before .before .before) 48 tt
 
 add-t154 : tie.Need-add-t154 Inv-loop μ-loop Inv-loop2 μ-loop2
-add-t154 c = fits-under w64 _ 256 (row-low _ _ (c .before .before .before .before .round-index2 .ensures .1) (lit≤ tt)) tt
+add-t154 c = fits-under w64 _ 256 (row-at (c .before .before .before .before) 64 tt) tt
 
 mul-t155 : tie.Need-mul-t155 Inv-loop μ-loop Inv-loop2 μ-loop2
-mul-t155 c = scaled-fits _ 256 _ (row-low _ _ (c .before .before .before .before .round-index2 .ensures .1) (lit≤ tt)) (lit< tt)
+mul-t155 c = scaled-fits _ 256 _ (row-at (c .before .before .before .before) 64 tt) (lit< tt)
 
 element-copy-out-t158 : tie.Need-element-copy-out-t158 Inv-loop μ-loop Inv-loop2 μ-loop2
-element-copy-out-t158 c = row-low _ _ (c .before .before .before .before .round-index2 .ensures .1) (lit≤ tt)
+element-copy-out-t158 c = row-at (c .before .before .before .before) 64 tt
 
 add-t159 : tie.Need-add-t159 Inv-loop μ-loop Inv-loop2 μ-loop2
-add-t159 c = fits-under w64 _ 256 (row-low _ _ (c .before .before .before .before .before .round-index2 .ensures .1) (lit≤ tt)) tt
+add-t159 c = fits-under w64 _ 256 (row-at (c .before .before .before .before .before) 80 tt) tt
 
 mul-t160 : tie.Need-mul-t160 Inv-loop μ-loop Inv-loop2 μ-loop2
-mul-t160 c = scaled-fits _ 256 _ (row-low _ _ (c .before .before .before .before .before .round-index2 .ensures .1) (lit≤ tt)) (lit< tt)
+mul-t160 c = scaled-fits _ 256 _ (row-at (c .before .before .before .before .before) 80 tt) (lit< tt)
 
 element-copy-out-t163 : tie.Need-element-copy-out-t163 Inv-loop μ-loop Inv-loop2 μ-loop2
-element-copy-out-t163 c = row-low _ _ (c .before .before .before .before .before .round-index2 .ensures .1) (lit≤ tt)
+element-copy-out-t163 c = row-at (c .before .before .before .before .before) 80 tt
 
 add-t164 : tie.Need-add-t164 Inv-loop μ-loop Inv-loop2 μ-loop2
-add-t164 c = fits-under w64 _ 256 (row-low _ _ (c .before .before .before .before .before .before .round-index2 .ensures .1) (lit≤ tt)) tt
+add-t164 c = fits-under w64 _ 256 (row-at (c .before .before .before .before .before .before) 96 tt) tt
 
 mul-t165 : tie.Need-mul-t165 Inv-loop μ-loop Inv-loop2 μ-loop2
-mul-t165 c = scaled-fits _ 256 _ (row-low _ _ (c .before .before .before .before .before .before .round-index2 .ensures .1) (lit≤ tt)) (lit< tt)
+mul-t165 c = scaled-fits _ 256 _ (row-at (c .before .before .before .before .before .before) 96 tt) (lit< tt)
 
 element-copy-out-t168 : tie.Need-element-copy-out-t168 Inv-loop μ-loop Inv-loop2 μ-loop2
-element-copy-out-t168 c = row-low _ _ (c .before .before .before .before .before .before .round-index2 .ensures .1) (lit≤ tt)
+element-copy-out-t168 c = row-at (c .before .before .before .before .before .before) 96 tt
 
 add-t169 : tie.Need-add-t169 Inv-loop μ-loop Inv-loop2 μ-loop2
-add-t169 c = fits-under w64 _ 256 (row-low _ _ (c .before .before .before .before .before .before .before .round-index2 .ensures .1) (lit≤ tt)) tt
+add-t169 c = fits-under w64 _ 256 (row-at (c .before .before .before .before .before .before .before) 112 tt) tt
 
 mul-t170 : tie.Need-mul-t170 Inv-loop μ-loop Inv-loop2 μ-loop2
-mul-t170 c = scaled-fits _ 256 _ (row-low _ _ (c .before .before .before .before .before .before .before .round-index2 .ensures .1) (lit≤ tt)) (lit< tt)
+mul-t170 c = scaled-fits _ 256 _ (row-at (c .before .before .before .before .before .before .before) 112 tt) (lit< tt)
 
 element-copy-out-t173 : tie.Need-element-copy-out-t173 Inv-loop μ-loop Inv-loop2 μ-loop2
-element-copy-out-t173 c = row-low _ _ (c .before .before .before .before .before .before .before .round-index2 .ensures .1) (lit≤ tt)
+element-copy-out-t173 c = row-at (c .before .before .before .before .before .before .before) 112 tt
 
 add-t174 : tie.Need-add-t174 Inv-loop μ-loop Inv-loop2 μ-loop2
-add-t174 c = fits-under w64 _ 256 (row-low _ _ (c .before .before .before .before .before .before .before .before .round-index2 .ensures .1) (lit≤ tt)) tt
+add-t174 c = fits-under w64 _ 256 (row-at (c .before .before .before .before .before .before .before .before) 128 tt) tt
 
 mul-t175 : tie.Need-mul-t175 Inv-loop μ-loop Inv-loop2 μ-loop2
-mul-t175 c = scaled-fits _ 256 _ (row-low _ _ (c .before .before .before .before .before .before .before .before .round-index2 .ensures .1) (lit≤ tt)) (lit< tt)
+mul-t175 c = scaled-fits _ 256 _ (row-at (c .before .before .before .before .before .before .before .before) 128 tt) (lit< tt)
 
 element-copy-out-t178 : tie.Need-element-copy-out-t178 Inv-loop μ-loop Inv-loop2 μ-loop2
-element-copy-out-t178 c = row-low _ _ (c .before .before .before .before .before .before .before .before .round-index2 .ensures .1) (lit≤ tt)
+element-copy-out-t178 c = row-at (c .before .before .before .before .before .before .before .before) 128 tt
 
 add-t179 : tie.Need-add-t179 Inv-loop μ-loop Inv-loop2 μ-loop2
-add-t179 c = fits-under w64 _ 256 (row-low _ _ (c .before .before .before .before .before .before .before .before .before .round-index2 .ensures .1) (lit≤ tt)) tt
+add-t179 c = fits-under w64 _ 256 (row-at (c .before .before .before .before .before .before .before .before .before) 144 tt) tt
 
 mul-t180 : tie.Need-mul-t180 Inv-loop μ-loop Inv-loop2 μ-loop2
-mul-t180 c = scaled-fits _ 256 _ (row-low _ _ (c .before .before .before .before .before .before .before .before .before .round-index2 .ensures .1) (lit≤ tt)) (lit< tt)
+mul-t180 c = scaled-fits _ 256 _ (row-at (c .before .before .before .before .before .before .before .before .before) 144 tt) (lit< tt)
 
 element-copy-out-t183 : tie.Need-element-copy-out-t183 Inv-loop μ-loop Inv-loop2 μ-loop2
-element-copy-out-t183 c = row-low _ _ (c .before .before .before .before .before .before .before .before .before .round-index2 .ensures .1) (lit≤ tt)
+element-copy-out-t183 c = row-at (c .before .before .before .before .before .before .before .before .before) 144 tt
 
 add-t184 : tie.Need-add-t184 Inv-loop μ-loop Inv-loop2 μ-loop2
-add-t184 c = fits-under w64 _ 256 (row-low _ _ (c .before .before .before .before .before .before .before .before .before .before .round-index2 .ensures .1) (lit≤ tt)) tt
+add-t184 c = fits-under w64 _ 256 (row-at (c .before .before .before .before .before .before .before .before .before .before) 160 tt) tt
 
 mul-t185 : tie.Need-mul-t185 Inv-loop μ-loop Inv-loop2 μ-loop2
-mul-t185 c = scaled-fits _ 256 _ (row-low _ _ (c .before .before .before .before .before .before .before .before .before .before .round-index2 .ensures .1) (lit≤ tt)) (lit< tt)
+mul-t185 c = scaled-fits _ 256 _ (row-at (c .before .before .before .before .before .before .before .before .before .before) 160 tt) (lit< tt)
 
 element-copy-out-t188 : tie.Need-element-copy-out-t188 Inv-loop μ-loop Inv-loop2 μ-loop2
-element-copy-out-t188 c = row-low _ _ (c .before .before .before .before .before .before .before .before .before .before .round-index2 .ensures .1) (lit≤ tt)
+element-copy-out-t188 c = row-at (c .before .before .before .before .before .before .before .before .before .before) 160 tt
 
 add-t189 : tie.Need-add-t189 Inv-loop μ-loop Inv-loop2 μ-loop2
-add-t189 c = fits-under w64 _ 256 (row-low _ _ (c .before .before .before .before .before .before .before .before .before .before .before .round-index2 .ensures .1) (lit≤ tt)) tt
+add-t189 c = fits-under w64 _ 256 (row-at (c .before .before .before .before .before .before .before .before .before .before .before) 176 tt) tt
 
 mul-t190 : tie.Need-mul-t190 Inv-loop μ-loop Inv-loop2 μ-loop2
-mul-t190 c = scaled-fits _ 256 _ (row-low _ _ (c .before .before .before .before .before .before .before .before .before .before .before .round-index2 .ensures .1) (lit≤ tt)) (lit< tt)
+mul-t190 c = scaled-fits _ 256 _ (row-at (c .before .before .before .before .before .before .before .before .before .before .before) 176 tt) (lit< tt)
 
 element-copy-out-t193 : tie.Need-element-copy-out-t193 Inv-loop μ-loop Inv-loop2 μ-loop2
-element-copy-out-t193 c = row-low _ _ (c .before .before .before .before .before .before .before .before .before .before .before .round-index2 .ensures .1) (lit≤ tt)
+element-copy-out-t193 c = row-at (c .before .before .before .before .before .before .before .before .before .before .before) 176 tt
 
 add-t194 : tie.Need-add-t194 Inv-loop μ-loop Inv-loop2 μ-loop2
-add-t194 c = fits-under w64 _ 256 (row-low _ _ (c .before .before .before .before .before .before .before .before .before .before .before .before .round-index2 .ensures .1) (lit≤ tt)) tt
+add-t194 c = fits-under w64 _ 256 (row-at (c .before .before .before .before .before .before .before .before .before .before .before .before) 192 tt) tt
 
 mul-t195 : tie.Need-mul-t195 Inv-loop μ-loop Inv-loop2 μ-loop2
-mul-t195 c = scaled-fits _ 256 _ (row-low _ _ (c .before .before .before .before .before .before .before .before .before .before .before .before .round-index2 .ensures .1) (lit≤ tt)) (lit< tt)
+mul-t195 c = scaled-fits _ 256 _ (row-at (c .before .before .before .before .before .before .before .before .before .before .before .before) 192 tt) (lit< tt)
 
 element-copy-out-t198 : tie.Need-element-copy-out-t198 Inv-loop μ-loop Inv-loop2 μ-loop2
-element-copy-out-t198 c = row-low _ _ (c .before .before .before .before .before .before .before .before .before .before .before .before .round-index2 .ensures .1) (lit≤ tt)
+element-copy-out-t198 c = row-at (c .before .before .before .before .before .before .before .before .before .before .before .before) 192 tt
 
 add-t199 : tie.Need-add-t199 Inv-loop μ-loop Inv-loop2 μ-loop2
-add-t199 c = fits-under w64 _ 256 (row-low _ _ (c .before .before .before .before .before .before .before .before .before .before .before .before .before .round-index2 .ensures .1) (lit≤ tt)) tt
+add-t199 c = fits-under w64 _ 256 (row-at (c .before .before .before .before .before .before .before .before .before .before .before .before .before) 208 tt) tt
 
 mul-t200 : tie.Need-mul-t200 Inv-loop μ-loop Inv-loop2 μ-loop2
-mul-t200 c = scaled-fits _ 256 _ (row-low _ _ (c .before .before .before .before .before .before .before .before .before .before .before .before .before .round-index2 .ensures .1) (lit≤ tt)) (lit< tt)
+mul-t200 c = scaled-fits _ 256 _ (row-at (c .before .before .before .before .before .before .before .before .before .before .before .before .before) 208 tt) (lit< tt)
 
 element-copy-out-t203 : tie.Need-element-copy-out-t203 Inv-loop μ-loop Inv-loop2 μ-loop2
-element-copy-out-t203 c = row-low _ _ (c .before .before .before .before .before .before .before .before .before .before .before .before .before .round-index2 .ensures .1) (lit≤ tt)
+element-copy-out-t203 c = row-at (c .before .before .before .before .before .before .before .before .before .before .before .before .before) 208 tt
 
 add-t204 : tie.Need-add-t204 Inv-loop μ-loop Inv-loop2 μ-loop2
-add-t204 c = fits-under w64 _ 256 (row-low _ _ (c .before .before .before .before .before .before .before .before .before .before .before .before .before .before .round-index2 .ensures .1) (lit≤ tt)) tt
+add-t204 c = fits-under w64 _ 256 (row-at (c .before .before .before .before .before .before .before .before .before .before .before .before .before .before) 224 tt) tt
 
 mul-t205 : tie.Need-mul-t205 Inv-loop μ-loop Inv-loop2 μ-loop2
-mul-t205 c = scaled-fits _ 256 _ (row-low _ _ (c .before .before .before .before .before .before .before .before .before .before .before .before .before .before .round-index2 .ensures .1) (lit≤ tt)) (lit< tt)
+mul-t205 c = scaled-fits _ 256 _ (row-at (c .before .before .before .before .before .before .before .before .before .before .before .before .before .before) 224 tt) (lit< tt)
 
 element-copy-out-t208 : tie.Need-element-copy-out-t208 Inv-loop μ-loop Inv-loop2 μ-loop2
-element-copy-out-t208 c = row-low _ _ (c .before .before .before .before .before .before .before .before .before .before .before .before .before .before .round-index2 .ensures .1) (lit≤ tt)
+element-copy-out-t208 c = row-at (c .before .before .before .before .before .before .before .before .before .before .before .before .before .before) 224 tt
 
 add-t209 : tie.Need-add-t209 Inv-loop μ-loop Inv-loop2 μ-loop2
-add-t209 c = fits-under w64 _ 256 (row-low _ _ (c .before .before .before .before .before .before .before .before .before .before .before .before .before .before .before .round-index2 .ensures .1) (lit≤ tt)) tt
+add-t209 c = fits-under w64 _ 256 (row-at (c .before .before .before .before .before .before .before .before .before .before .before .before .before .before .before) 240 tt) tt
 
 mul-t210 : tie.Need-mul-t210 Inv-loop μ-loop Inv-loop2 μ-loop2
-mul-t210 c = scaled-fits _ 256 _ (row-low _ _ (c .before .before .before .before .before .before .before .before .before .before .before .before .before .before .before .round-index2 .ensures .1) (lit≤ tt)) (lit< tt)
+mul-t210 c = scaled-fits _ 256 _ (row-at (c .before .before .before .before .before .before .before .before .before .before .before .before .before .before .before) 240 tt) (lit< tt)
 
 element-copy-out-t213 : tie.Need-element-copy-out-t213 Inv-loop μ-loop Inv-loop2 μ-loop2
-element-copy-out-t213 c = row-low _ _ (c .before .before .before .before .before .before .before .before .before .before .before .before .before .before .before .round-index2 .ensures .1) (lit≤ tt)
+element-copy-out-t213 c = row-at (c .before .before .before .before .before .before .before .before .before .before .before .before .before .before .before) 240 tt
 
 close-requires : tie.Need-close-requires Inv-loop μ-loop Inv-loop2 μ-loop2
 close-requires c κs = (turn-sizes (turn (c .before .before .before .before .before .before .before .before .before .before .before .before .before .before .before .before .before .before .before .before .before .before .before .before .before .before)), (low-close (c .before .before .before .before .before .before .before .before .before .before .before .before .before .before .before .before .before .before .before .before), close-round (c .before .before .before .before .before .before .before .before .before .before .before .before .before .before .before .before .before)))

@@ -1,15 +1,12 @@
--- Checks 6 to 9 of an event on the parts of the bench that it looks at, and its effect on them, as the code of `run` has them.
+-- Checks 6 to 9 of an event on the parts of the bench that it looks at, as the code has them.
 -- Each is the definition with its parts named, so it holds by unfolding.
 use mathlib.Core.Path.{_≡_, refl}
 use mathlib.Core.Bool.{Bool, true, false, not}
 use Prim.Native.Nat.{ℕ, _≤_}
 use Rattle.sets.specs.Set.{has, sizeOf, emptySet}
 use Rattle.sets.specs.Truth.{_&&_, same, below, choose, and-l, below-on}
-use Rattle.global_data.specs.declared.GlobalData.{GlobalData}
 use Rattle.process.specs.declared.Process.{Process}
-use Rattle.process.specs.Steps.{hasDecided, takesPart, dueOf, receiveOf, adoptOf}
-use Rattle.bench.specs.declared.Message.{Message}
-use Rattle.bench.specs.declared.Message.the-variants.{Estimate, Decision}
+use Rattle.process.specs.Steps.{hasDecided, takesPart, dueOf}
 use Rattle.bench.specs.Refuse.{check, possible, ready, allowed}
 
 -- the number of the first check that fails, or 0
@@ -33,11 +30,6 @@ crashCheck crashed a t = firstOf (has crashed a) true true (below (sizeOf crashe
 -- a, which suspects those in m, is to suspect b
 unfoldable pub suspectCheck : ℕ → ℕ → ℕ → ℕ → ℕ
 suspectCheck crashed a m b = firstOf (has crashed a) (has crashed b && not (has m b)) true true
-
--- process b, once a message of a has arrived; g is what a decided on
-unfoldable pub arrivedAs : ℕ → ℕ → ℕ → Message → GlobalData → Process → Process
-arrivedAs n b a (Estimate r) g p = receiveOf a r p
-arrivedAs n b a Decision g p = adoptOf n b a g p
 
 -- what is impossible is so whatever is checked after it
 pub first-impossible : (crashed ready allowed : Bool) → firstOf crashed false ready allowed ≡ firstOf crashed false false true

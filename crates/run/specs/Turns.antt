@@ -183,7 +183,7 @@ message-low p h = go (is (hasDecided p))
     go (on e) = rw (choose-on (hasDecided p) 0 (p .round) e) (omega arith)
     go (off e) = rw (choose-off (hasDecided p) 0 (p .round) e) h
 
--- where the code looks: the row of round r + 1 of a, the row k places on from round r + 1, and message r of a, which is the definition's m
+-- where the code looks: the row of round r + 1 of a, the row k places on from r, and message r of a, the definition's m
 pub slot-low : (a r : ℕ) → a < 16 → r < 16 → a * 16 + r < 256
 slot-low a r p q = omega arith
 
@@ -290,7 +290,8 @@ module _ (s : Bench) where
   unfolding effect
   effect-start a v i p e h = opened-at a i p e ∙ ap (opensRound s a) h
 
-  pub effect-suspect : (a b : ℕ) (p : Process) → p ≡ suspectOf b (processAt s a) → withProcess s a p ≡ effect (Suspect a b) s
+  pub effect-suspect : (a b : ℕ) (p : Process) → p ≡ suspectOf b (processAt s a)
+      → withProcess s a p ≡ effect (Suspect a b) s
   unfolding effect
   effect-suspect a b p h = ap (withProcess s a) h
 
@@ -313,7 +314,8 @@ module _ (s : Bench) where
 
   -- the message k of a arrives at b
   pub effect-receive : (a b r i m : ℕ) (k : Message) (p : Process) → k ≡ Estimate r → i ≡ numberOf k
-      → p ≡ receiveOf a r (processAt s b) → m ≡ removeOf (transitAt s a i) b → movedAt a i b p m ≡ effect (Arrive a b k) s
+      → p ≡ receiveOf a r (processAt s b) → m ≡ removeOf (transitAt s a i) b
+      → movedAt a i b p m ≡ effect (Arrive a b k) s
   unfolding effect arrives withProcess withTransit transitAt numberOf
   effect-receive a b r i m k p q e h w = rw (w, e, q, h)
 

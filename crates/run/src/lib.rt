@@ -1,4 +1,5 @@
-// Run, by value: a bench stepped by the records of a schedule. The call for one record is in `one_record`, the forms that lend are in `host`.
+// Run, by value: a bench stepped by the records of a schedule. The call for one record is in `one_record`, the forms that lend are in
+// `host`.
 use bench::Bench;
 use bench::Cause;
 use bench::Decoded;
@@ -17,14 +18,10 @@ use records::decode;
 use soundness::parts_sound;
 use soundness::set_within;
 ghost use mathlib.Core.Path.{_≡_};
-ghost use mathlib.Core.Bool.{true};
 ghost use Prim.Native.Nat.{_-_, _<_, _≤_};
 ghost use Rattle.bench.specs.declared.Cause.the-variants.{Refused as RefusedRun};
-ghost use Rattle.bench.specs.Sound.{soundOf};
 ghost use Rattle.bench.specs.Refuse.{numberOf};
-ghost use Rattle.bench.specs.RecordLaws.{messageIn};
-ghost use Rattle.bench.specs.Calls.{refused, endedOf, runFrom, runOf};
-ghost use Rattle.checks.specs.Checks.{arrivedAs};
+ghost use Rattle.bench.specs.Calls.{refused, endedOf, runOf};
 
 // A run that ends with a refusal.
 fn turned_away(s: Bench, accepted: u32, number: u8, taken: usize) -> Ended

@@ -12,8 +12,6 @@ use checks::crash_check;
 use checks::message_check;
 use checks::start_check;
 use checks::suspect_check;
-use global_data::GlobalData;
-use process::Process;
 use records::decode;
 use soundness::parts_sound;
 use soundness::set_within;

@@ -1,8 +1,14 @@
-// The calls, and what each answers as a number: 0, or document 01's number of the refusal.
+// The calls that a line can name, with their numbers. Each writes its answer, 0 or the refusal, and what it gives.
+use crate::line::Line;
+use crate::line::rest;
 use aggregates::ChangeAnswer;
 use aggregates::GoAnswer;
 use aggregates::LeadAnswer;
 use aggregates::TotalAnswer;
+use aggregates::change;
+use aggregates::go;
+use aggregates::lead;
+use aggregates::total;
 use bench::Answer;
 use bench::Bench;
 use bench::Cause;
@@ -10,179 +16,156 @@ use bench::Listed;
 use bench::Shown;
 use decision::global_data;
 use one_record::step_bytes;
+use process::Process;
 use run::run_bytes;
 use transit::in_transit;
 
-pub fn say(name: &[u8], part: &[u8], number: u64) {
-    io::write_all(1, name);
-    io::write_all(1, part);
+fn say(number: u32) {
     io::write_all(1, b" ");
-    io::print_decimal(1, number);
-    io::write_all(1, b"\n");
+    io::print_decimal(1, number as u64);
 }
 
-fn of_answer(a: Answer) -> u64 {
+fn say_answer(a: Answer) {
     match a {
-        Answer::Accepted => 0,
-        Answer::Refused(r) => r.number as u64,
+        Answer::Accepted => say(0),
+        Answer::Refused(r) => say(r.number as u32),
     }
 }
 
-// The bench as opened; refused, the all-zero one.
-pub fn opened(n: u8, t: u8) -> Bench {
+fn open(n: u8, t: u8) -> Bench {
     let o = Bench::open(n, t);
+    let a = o.answer;
+    say_answer(a);
     o.bench
 }
 
-pub fn opening(n: u8, t: u8) -> u64 {
-    let o = Bench::open(n, t);
-    let a = o.answer;
-    of_answer(a)
+fn say_run(accepted: u32, cause: Cause) {
+    say(accepted);
+    match cause {
+        Cause::Empty => {
+            io::write_all(1, b" empty");
+        }
+        Cause::Spent => {
+            io::write_all(1, b" spent");
+        }
+        Cause::Refused(r) => say(r.number as u32),
+    }
 }
 
-// A damaged bench: n 3, t 1, process 2 in round 3.
-fn damaged() -> Bench {
-    let mut b = opened(3, 1);
-    let mut p = b.processes[1];
-    p.round = 3;
-    b.processes[1] = p;
-    b
-}
-
-// The bench after a schedule, up to a refused record.
-pub fn after(b: Bench, records: &[u8]) -> Bench {
-    let e = run_bytes(b, records, 1000);
+// A budget and bytes: the call for one record and run are both given the bench, and the one that run gives is kept.
+fn records(b: Bench, l: Line) -> Bench {
+    let numbers = l.numbers;
+    let budget = numbers[0] as u32;
+    let bytes = rest(&numbers, l.count);
+    let s = step_bytes(b, bytes);
+    let a = s.answer;
+    say_answer(a);
+    let e = run_bytes(b, bytes, budget);
+    let cause = e.cause;
+    say_run(e.accepted, cause);
     e.bench
 }
 
-pub fn accepted(b: Bench, records: &[u8]) -> u64 {
-    let e = run_bytes(b, records, 1000);
-    e.accepted as u64
+// Process 2 is put into a round, so that the bench can be damaged.
+fn force(b: Bench, round: u8) -> Bench {
+    let mut c = b;
+    let mut p = c.processes[1];
+    p.round = round;
+    c.processes[1] = p;
+    c
 }
 
-// The refusal at which a run ends, or 0.
-pub fn refused(b: Bench, records: &[u8]) -> u64 {
-    let e = run_bytes(b, records, 1000);
-    let cause = e.cause;
-    match cause {
-        Cause::Empty => 0,
-        Cause::Spent => 0,
-        Cause::Refused(r) => r.number as u64,
+fn say_process(p: Process, crashed: u16) {
+    say(p.round as u32);
+    say(if p.has_decided() { 1 } else { 0 });
+    say(p.current as u32);
+    say(crashed as u32);
+}
+
+// A process, from 1.
+fn process(b: Bench, number: u8) {
+    let at = ((number % 16) as usize + 15) % 16;
+    say_process(b.processes[at], b.crashed);
+}
+
+fn say_shown(s: Shown, words: [u32; 16]) {
+    match s {
+        Shown::Marks(m) => {
+            say(0);
+            say(m as u32);
+        }
+        Shown::Refused(r) => say(r.number as u32),
+    }
+    say(words[0]);
+    say(words[1]);
+    say(words[2]);
+}
+
+// Of sixteen words, all 9, so many are lent.
+fn data(b: Bench, process: u8, words: usize) {
+    if 16 < words {
+        return;
+    }
+    let mut all = [9u32; 16];
+    let s = global_data(b, process, &mut all[0..words]);
+    say_shown(s, all);
+}
+
+// Three bytes are lent.
+fn list(b: Bench) {
+    let mut bytes = [0u8; 3];
+    match in_transit(b, &mut bytes) {
+        Listed::Count(_) => say(0),
+        Listed::Refused(r) => say(r.number as u32),
     }
 }
 
-pub fn damaged_runs() -> u64 {
-    refused(damaged(), &[4, 1, 0, 0, 0, 0, 0, 0])
-}
-
-pub fn damaged_runs_nothing() -> u64 {
-    refused(damaged(), &[])
-}
-
-// Whether a run of a new bench ends because the schedule is empty, and because the budget is spent.
-pub fn is_empty(records: &[u8], budget: u32) -> u64 {
-    let e = run_bytes(opened(3, 1), records, budget);
-    let cause = e.cause;
-    match cause {
-        Cause::Empty => 1,
-        Cause::Spent => 0,
-        Cause::Refused(_) => 0,
+// The change is from 4.
+fn aggregate(n: u8, marks: u16, process: u8, entries: &[u32]) {
+    match total(n, entries, marks) {
+        TotalAnswer::Sum(_) => say(0),
+        TotalAnswer::Refused(r) => say(r.number as u32),
     }
-}
-
-pub fn is_spent(records: &[u8], budget: u32) -> u64 {
-    let e = run_bytes(opened(3, 1), records, budget);
-    let cause = e.cause;
-    match cause {
-        Cause::Empty => 0,
-        Cause::Spent => 1,
-        Cause::Refused(_) => 0,
+    match go(n, entries, marks) {
+        GoAnswer::Go(_) => say(0),
+        GoAnswer::Refused(r) => say(r.number as u32),
     }
-}
-
-// The call for one record, given any bytes.
-fn step(b: Bench, bytes: &[u8]) -> u64 {
-    let s = step_bytes(b, bytes);
-    let a = s.answer;
-    of_answer(a)
-}
-
-// Given a whole record with neither round nor value.
-pub fn record(b: Bench, kind: u8, a: u8, other: u8) -> u64 {
-    step(b, &[kind, a, other, 0, 0, 0, 0, 0])
-}
-
-pub fn new_record(n: u8, t: u8, kind: u8, a: u8, other: u8) -> u64 {
-    record(opened(n, t), kind, a, other)
-}
-
-pub fn damaged_record(kind: u8, a: u8) -> u64 {
-    record(damaged(), kind, a, 0)
-}
-
-pub fn short_record(kind: u8, a: u8) -> u64 {
-    step(opened(3, 1), &[kind, a, 0, 0, 0, 0, 0])
-}
-
-pub fn damaged_short_record() -> u64 {
-    step(damaged(), &[4, 1])
-}
-
-// The call for a process's global data, with a lent slice.
-pub fn shown(b: Bench, process: u8, out: &mut [u32]) -> u64 {
-    match global_data(b, process, out) {
-        Shown::Marks(_) => 0,
-        Shown::Refused(r) => r.number as u64,
-    }
-}
-
-pub fn new_shows(process: u8, out: &mut [u32]) -> u64 {
-    shown(opened(3, 1), process, out)
-}
-
-pub fn damaged_shows(process: u8) -> u64 {
-    shown(damaged(), process, &mut [0; 3])
-}
-
-// The call for the list in transit, with a lent slice.
-pub fn listed(b: Bench, out: &mut [u8]) -> u64 {
-    match in_transit(b, out) {
-        Listed::Count(_) => 0,
-        Listed::Refused(r) => r.number as u64,
-    }
-}
-
-pub fn damaged_lists(out: &mut [u8]) -> u64 {
-    listed(damaged(), out)
-}
-
-pub fn total(n: u8, entries: &[u32], marks: u16) -> u64 {
-    match aggregates::total(n, entries, marks) {
-        TotalAnswer::Sum(_) => 0,
-        TotalAnswer::Refused(r) => r.number as u64,
-    }
-}
-
-pub fn go(n: u8, entries: &[u32], marks: u16) -> u64 {
-    match aggregates::go(n, entries, marks) {
-        GoAnswer::Go(_) => 0,
-        GoAnswer::Refused(r) => r.number as u64,
-    }
-}
-
-pub fn lead(n: u8, entries: &[u32], marks: u16) -> u64 {
-    match aggregates::lead(n, entries, marks) {
+    match lead(n, entries, marks) {
         LeadAnswer::Lead {
             process: _,
             value: _,
-        } => 0,
-        LeadAnswer::Refused(r) => r.number as u64,
+        } => say(0),
+        LeadAnswer::Refused(r) => say(r.number as u32),
+    }
+    match change(n, entries, marks, process, 4) {
+        ChangeAnswer::Difference(_) => say(0),
+        ChangeAnswer::Refused(r) => say(r.number as u32),
     }
 }
 
-pub fn change(n: u8, entries: &[u32], marks: u16, process: u8) -> u64 {
-    match aggregates::change(n, entries, marks, process, 4) {
-        ChangeAnswer::Difference(_) => 0,
-        ChangeAnswer::Refused(r) => r.number as u64,
+// The calls that only read, with the line's first three numbers
+fn look(b: Bench, letter: u8, first: u8, second: u8, third: u8) {
+    match letter {
+        b'p' => process(b, first),
+        b'd' => data(b, first, second as usize),
+        b'i' => list(b),
+        b'a' => aggregate(first, second as u16, third, &[5, 6, 7]),
+        _ => {}
+    }
+}
+
+// Makes a line's call, by its first letter, and gives the bench after it. Any other letter is no call.
+pub fn answer(b: Bench, l: Line) -> Bench {
+    let letter = l.letter;
+    let first = l.numbers[0];
+    let second = l.numbers[1];
+    match letter {
+        b'o' => open(first, second),
+        b'r' => records(b, l),
+        b'f' => force(b, first),
+        _ => {
+            look(b, letter, first, second, l.numbers[2]);
+            b
+        }
     }
 }

@@ -1,4 +1,5 @@
-// The aggregates of global data. A call gives 0 and writes the lent word, or gives the number of its refusal and leaves the word.
+// The aggregates of global data for a host in C or Rust (include/gerzulan.h). A call gives 0 and writes the lent word, or gives the number
+// of its refusal and leaves the word.
 use aggregates::ChangeAnswer;
 use aggregates::GoAnswer;
 use aggregates::LeadAnswer;

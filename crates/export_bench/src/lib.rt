@@ -1,4 +1,5 @@
-// The bench, lent by the host: each call reads it, has the work done by value, and stores what comes of it.
+// The calls for a host in C or Rust (include/gerzulan.h) on a bench that it lends: each reads it, has the work done by value, and stores
+// what comes of it. What a call answers is a number, by the definitions of `answers`.
 use answers::Progress;
 use answers::Reached;
 use answers::host_ran;

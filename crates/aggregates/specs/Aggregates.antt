@@ -1,42 +1,29 @@
 -- The aggregates of global data (document 01: sums of a sheet): total, go, lead and change, with what each refuses.
 -- Document 01 says terminal for process, count for value and blank for absent; its refusals keep their numbers.
-use mathlib.Core.Bool.{Bool, true, not}
+use mathlib.Core.Bool.{Bool, true}
 use mathlib.Core.List.{List}
 use Prim.Native.Nat.{ℕ, _-_}
 use lib.ListN.{length}
 use lib.IntN.{ℤ, pos, _-ℤ_}
-use Rattle.sets.specs.Every.{every}
-use Rattle.sets.specs.Set.{has}
-use Rattle.sets.specs.Truth.{_&&_, _||_, same, below, choose}
-use Rattle.aggregates.specs.declared.Entry.{Entry}
-use Rattle.aggregates.specs.declared.Entry.the-variants.{Absent, Value}
+use Rattle.sets.specs.Lists.{every, sumTo}
+use Rattle.sets.specs.Set.{within}
+use Rattle.sets.specs.Truth.{same, oneTo, choose, check}
+use Rattle.global_data.specs.declared.Entry.{Entry}
+use Rattle.global_data.specs.declared.Entry.the-variants.{Absent, Value}
 use Rattle.aggregates.specs.declared.Candidate.{Candidate}
 use Rattle.aggregates.specs.declared.Leader.{Leader}
 use Rattle.aggregates.specs.declared.Leader.the-variants.{Nobody, Leads}
 use Rattle.aggregates.specs.Answers.{Answer, refused, gives}
 use Rattle.aggregates.specs.Entries.{entryAt, countsFor, served}
-use Rattle.aggregates.specs.Sum.{sumTo}
 use Rattle.aggregates.specs.Leader.{leaderTo}
 
 -- ---- refusals: the number of the first check that fails, or 0
 
--- a number from 1 to k
-unfoldable pub within : ℕ → ℕ → Bool
-within k p = below 0 p && not (below k p)
-
--- no present mark at or past n
-unfoldable pub inside : ℕ → ℕ → Bool
-inside n marks = every 16 (λ i. not (has marks i) || below i n)
-
--- a number, where its check fails, or what the later checks say
-abbrev pub check : Bool → ℕ → ℕ → ℕ
-check ok number later = choose ok later number
-
 -- n from 1 to 16; marks below n; the process, where one is used, from 1 to n; n entries
 unfoldable pub refusalOf : ℕ → ℕ → Bool → ℕ → ℕ
 refusalOf n marks named entries =
-    check (within 16 n) 1
-    (check (inside n marks) 5
+    check (oneTo 16 n) 1
+    (check (within n marks) 5
     (check named 5
     (check (same entries n) 10 0)))
 
@@ -80,4 +67,5 @@ leadOf n entries marks =
 
 unfoldable pub changeOf : ℕ → List ℕ → ℕ → ℕ → ℕ → Answer ℤ
 changeOf n entries marks process standing =
-    unless (refusalOf n marks (within n process) (length entries)) (changed standing (entryAt entries marks (process - 1)))
+    unless (refusalOf n marks (oneTo n process) (length entries))
+    (changed standing (entryAt entries marks (process - 1)))

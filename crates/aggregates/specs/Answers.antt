@@ -1,4 +1,5 @@
--- What a call answers in document 01's terms: the number of a refusal, or what it gives; and what each case of the answers' enums says.
+-- What a call answers in document 01's terms: the number of a refusal, or what it gives;
+-- and what each case of the answers' enums says.
 use mathlib.Core.Bool.{Bool}
 use Prim.Native.Nat.{ℕ}
 use lib.IntN.{ℤ}

@@ -7,7 +7,7 @@ use borrow.Author.Tests.{lt-ltb, le-ltb}
 use lib.IntN.{ℤ, pos, negsuc, natAbs, _-ℤ_}
 use mir.Syntax.{w64}
 use mir.Val.{SFits, toZ}
-use Rattle.sets.specs.Truth.{le-or}
+use Rattle.sets.specs.TruthLaws.{le-or}
 
 pub change-up : (v s : ℕ) → s ≤ v → pos v -ℤ pos s ≡ pos (v - s)
 change-up v zero h = ap pos (omega arith)
@@ -27,7 +27,8 @@ pub change-greatest : pos 4294967295 -ℤ pos 0 ≡ pos 4294967295
 change-greatest = refl
 
 -- what holds of the difference both ways
-by-order : (P : ℤ → Type 0) (v s : ℕ) → (s ≤ v → P (pos (v - s))) → (v < s → P (negsuc (s - suc v))) → P (pos v -ℤ pos s)
+by-order : (P : ℤ → Type 0) (v s : ℕ) → (s ≤ v → P (pos (v - s))) → (v < s → P (negsuc (s - suc v)))
+    → P (pos v -ℤ pos s)
 by-order P v s f g = ⊎-elim (λ h. rw (change-up v s h) (f h)) (λ h. rw (change-down v s h) (g h)) (le-or s v)
 
 -- from -4,294,967,295 to 4,294,967,295

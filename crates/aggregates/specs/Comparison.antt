@@ -5,7 +5,10 @@ use mathlib.Core.Bool.{true, false}
 use Prim.Native.Nat.{_≤_, _<_}
 use native.Mathlib.Omega.{arith}
 use lib.Dec.{ltb}
-use Rattle.sets.specs.Truth.{_&&_, same, below, or-cases, or-none-l, or-none-r, or-off-l, or-off-r, and-l, and-r, and-on-l, and-off-l, and-cases, same-on, same-mk, same-off, same-not, below-on, below-off, below-not, off-by}
+use Rattle.sets.specs.Truth.{_&&_, same, below}
+use Rattle.sets.specs.TruthLaws.{or-cases, or-none-l, or-none-r, or-off-l, or-off-r, and-l}
+use Rattle.sets.specs.TruthLaws.{and-r, and-on-l, and-off-l, and-cases, same-on, same-mk}
+use Rattle.sets.specs.TruthLaws.{same-off, same-not, below-on, below-off, below-not, off-by}
 use Rattle.aggregates.specs.declared.Candidate.{Candidate}
 use Rattle.aggregates.specs.Leader.{better}
 
@@ -22,19 +25,27 @@ pub better-on : (a b : Candidate) → better a b ≡ true → Ahead a b
 unfolding better
 better-on a b e =
     ⊎-elim (λ l. inl (below-on (b .value) (a .value) l))
-    (λ t. inr (same-on (b .value) (a .value) (and-l (same (b .value) (a .value)) (below (a .process) (b .process)) t), below-on (a .process) (b .process) (and-r (same (b .value) (a .value)) (below (a .process) (b .process)) t)))
+    (λ t. inr (
+      same-on (b .value) (a .value) (and-l (same (b .value) (a .value)) (below (a .process) (b .process)) t),
+      below-on (a .process) (b .process) (and-r (same (b .value) (a .value)) (below (a .process) (b .process)) t),
+    ))
     (or-cases (below (b .value) (a .value)) (same (b .value) (a .value) && below (a .process) (b .process)) e)
 
 pub better-off : (a b : Candidate) → better a b ≡ false → Behind a b
 unfolding better
 better-off a b e = record {
-  larger = below-not (b .value) (a .value) (or-none-l (below (b .value) (a .value)) (same (b .value) (a .value) && below (a .process) (b .process)) e);
-  lower = λ q. ⊎-elim (λ s. absurd (same-not (b .value) (a .value) s (sym q))) (λ l. below-not (a .process) (b .process) l)
-      (and-cases (same (b .value) (a .value)) (below (a .process) (b .process)) (or-none-r (below (b .value) (a .value)) (same (b .value) (a .value) && below (a .process) (b .process)) e));
+  larger =
+      below-not (b .value) (a .value)
+      (or-none-l (below (b .value) (a .value)) (same (b .value) (a .value) && below (a .process) (b .process)) e);
+  lower = λ q. ⊎-elim (λ s. absurd (same-not (b .value) (a .value) s (sym q)))
+      (λ l. below-not (a .process) (b .process) l)
+      (and-cases (same (b .value) (a .value)) (below (a .process) (b .process))
+      (or-none-r (below (b .value) (a .value)) (same (b .value) (a .value) && below (a .process) (b .process)) e));
 }
 
 pub behind-off : (a b : Candidate) → Behind a b → better a b ≡ false
-behind-off a b h = off-by (better a b) (λ e. ⊎-elim (λ l. omega arith) (λ t. omega (arith, h .lower (sym (t .0)))) (better-on a b e))
+behind-off a b h =
+    off-by (better a b) (λ e. ⊎-elim (λ l. omega arith) (λ t. omega (arith, h .lower (sym (t .0)))) (better-on a b e))
 
 -- none leads before itself
 pub better-self : (a : Candidate) → better a a ≡ false
@@ -58,4 +69,5 @@ better-same a b e =
 pub better-other : (a b : Candidate) → (a .value ≡ b .value → ⊥) → ltb (b .value) (a .value) ≡ better a b
 unfolding better below
 better-other a b h =
-    sym (or-off-r (below (b .value) (a .value)) _ (and-off-l _ (below (a .process) (b .process)) (same-off (b .value) (a .value) (λ e. h (sym e)))))
+    sym (or-off-r (below (b .value) (a .value)) _
+    (and-off-l _ (below (a .process) (b .process)) (same-off (b .value) (a .value) (λ e. h (sym e)))))

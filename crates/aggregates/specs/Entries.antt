@@ -4,13 +4,14 @@ use mathlib.Core.List.{List}
 use Prim.Native.Nat.{ℕ}
 use lib.ListN.{getD}
 use Rattle.sets.specs.Set.{has}
-use Rattle.sets.specs.Truth.{below, choose}
-use Rattle.aggregates.specs.declared.Entry.{Entry}
-use Rattle.aggregates.specs.declared.Entry.the-variants.{Absent, Value}
+use Rattle.sets.specs.Truth.{below}
+use Rattle.global_data.specs.GlobalData.{entry}
+use Rattle.global_data.specs.declared.Entry.{Entry}
+use Rattle.global_data.specs.declared.Entry.the-variants.{Absent, Value}
 
 -- Entry i, from 0: its value (document 01: count) where its present mark is set, else absent (document 01: blank).
 unfoldable pub entryAt : List ℕ → ℕ → ℕ → Entry
-entryAt entries marks i = choose (has marks i) (Value (getD entries i 0)) Absent
+entryAt entries marks i = entry (has marks i) (getD entries i 0)
 
 -- What an entry adds to the total: absent as nought.
 abbrev pub countsFor : Entry → ℕ

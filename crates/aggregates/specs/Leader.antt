@@ -2,8 +2,8 @@
 use mathlib.Core.Bool.{Bool}
 use Prim.Native.Nat.{ℕ, zero, suc}
 use Rattle.sets.specs.Truth.{_&&_, _||_, same, below, choose}
-use Rattle.aggregates.specs.declared.Entry.{Entry}
-use Rattle.aggregates.specs.declared.Entry.the-variants.{Absent, Value}
+use Rattle.global_data.specs.declared.Entry.{Entry}
+use Rattle.global_data.specs.declared.Entry.the-variants.{Absent, Value}
 use Rattle.aggregates.specs.declared.Candidate.{Candidate}
 use Rattle.aggregates.specs.declared.Leader.{Leader}
 use Rattle.aggregates.specs.declared.Leader.the-variants.{Nobody, Leads}

@@ -1,13 +1,15 @@
--- The leader is the one process that document 01 describes: the search keeps the best candidate so far, by the laws of the comparison alone.
+-- The leader is the one process that document 01 describes: the search keeps the best candidate so far,
+-- by the laws of the comparison alone.
 use mathlib.Core.Path.{_≡_, refl, _∙_, ap}
 use mathlib.Core.Logic.{_⊎_, inl, inr, ⊎-elim}
 use mathlib.Core.Bool.{false}
 use Prim.Native.Nat.{ℕ, zero, suc, _-_, _≤_, _<_}
 use native.Mathlib.Numerals.{unary-clauses}
 use native.Mathlib.Omega.{arith}
-use Rattle.sets.specs.Truth.{choose, choose-on, choose-off, Is, is, on, off, eq-or, le-or}
-use Rattle.aggregates.specs.declared.Entry.{Entry}
-use Rattle.aggregates.specs.declared.Entry.the-variants.{Absent, Value}
+use Rattle.sets.specs.Truth.{choose}
+use Rattle.sets.specs.TruthLaws.{choose-on, choose-off, Is, is, on, off, eq-or, le-or}
+use Rattle.global_data.specs.declared.Entry.{Entry}
+use Rattle.global_data.specs.declared.Entry.the-variants.{Absent, Value}
 use Rattle.aggregates.specs.declared.Candidate.{Candidate}
 use Rattle.aggregates.specs.declared.Leader.{Leader}
 use Rattle.aggregates.specs.declared.Leader.the-variants.{Nobody, Leads}
@@ -62,8 +64,10 @@ module _ (n : ℕ) (g : ℕ → Entry) where
         (λ l. f i v l e) (last-or n i h);
   }
 
-  met : (b : Candidate) (w : ℕ) → g n ≡ Value w → Top n g b → Is (better (candidate n w) b) → Found (suc n) g (choose (better (candidate n w) b) (Leads (candidate n w)) (Leads b))
-  met b w q t (on e) = rw (choose-on _ _ _ e) (takes w q (λ i v h f. better-over (candidate i v) (candidate n w) b e (t .best i v h f)))
+  met : (b : Candidate) (w : ℕ) → g n ≡ Value w → Top n g b → Is (better (candidate n w) b)
+      → Found (suc n) g (choose (better (candidate n w) b) (Leads (candidate n w)) (Leads b))
+  met b w q t (on e) =
+      rw (choose-on _ _ _ e) (takes w q (λ i v h f. better-over (candidate i v) (candidate n w) b e (t .best i v h f)))
   met b w q t (off e) = rw (choose-off _ _ _ e) (stays b t (λ v f. rw (same-value (g n) v w f q) e))
 
   step : (l : Leader) (e : Entry) → g n ≡ e → Found n g l → Found (suc n) g (withEntry l (suc n) e)
@@ -79,7 +83,8 @@ found (suc n) g = step n g (leaderTo n g) (g n) refl (found n g)
 
 -- ---- in document 01's words
 
--- b is the process, from 1 to n, whose entry is present, at least every present entry, and larger than those of lower number
+-- b is the process, from 1 to n, whose entry is present, at least every present entry,
+-- and larger than those of lower number
 pub record IsLead (n : ℕ) (g : ℕ → Entry) (b : Candidate) : Type 0 where
   pub from : 1 ≤ b .process
   pub to : b .process ≤ n
@@ -94,7 +99,8 @@ lead-none n g e = rw e at (found n g)
 pub lead-is : (n : ℕ) (g : ℕ → Entry) (b : Candidate) → leaderTo n g ≡ Leads b → IsLead n g b
 lead-is n g b e =
     let t : Top n g b = rw e at (found n g) in
-    let h : (i v : ℕ) → i < n → g i ≡ Value v → Behind (candidate i v) b = λ i v l q. better-off (candidate i v) b (t .best i v l q) in
+    let h : (i v : ℕ) → i < n → g i ≡ Value v → Behind (candidate i v) b =
+    λ i v l q. better-off (candidate i v) b (t .best i v l q) in
     record {
       from = t .from;
       to = t .to;
@@ -103,7 +109,8 @@ lead-is n g b e =
       lowest = λ i v l q. apart i v b l (h i v (omega (arith, t .to)) q) (le-or (b .value) v);
     }
   where
-    apart : (i v : ℕ) (b : Candidate) → suc i < b .process → Behind (candidate i v) b → (b .value ≤ v) ⊎ (v < b .value) → v < b .value
+    apart : (i v : ℕ) (b : Candidate) → suc i < b .process → Behind (candidate i v) b → (b .value ≤ v) ⊎ (v < b .value)
+        → v < b .value
     apart i v b l h (inl k) = absurd (omega (arith, h .lower (omega (arith, h .larger))))
     apart i v b l h (inr k) = k
 
@@ -116,19 +123,29 @@ not-lower n g a b p q = go (le-or (a .process) (b .process))
   where
     go : (a .process ≤ b .process) ⊎ (b .process < a .process) → a .process ≤ b .process
     go (inl h) = h
-    go (inr h) = absurd (omega (arith, p .lowest (b .process - 1) (b .value) (omega (arith, q .from)) (q .present), q .largest (a .process - 1) (a .value) (omega (arith, p .to, p .from)) (p .present)))
+    go (inr h) = absurd (omega (
+      arith,
+      p .lowest (b .process - 1) (b .value) (omega (arith, q .from)) (q .present),
+      q .largest (a .process - 1) (a .value) (omega (arith, p .to, p .from)) (p .present),
+    ))
 
 pub lead-one : (n : ℕ) (g : ℕ → Entry) (a b : Candidate) → IsLead n g a → IsLead n g b → a ≡ b
 lead-one n g a b p q =
     same-candidate a b (omega (arith, not-lower n g a b p q, not-lower n g b a q p))
-    (omega (arith, q .largest (a .process - 1) (a .value) (omega (arith, p .to, p .from)) (p .present), p .largest (b .process - 1) (b .value) (omega (arith, q .to, q .from)) (q .present)))
+    (omega (
+      arith,
+      q .largest (a .process - 1) (a .value) (omega (arith, p .to, p .from)) (p .present),
+      p .largest (b .process - 1) (b .value) (omega (arith, q .to, q .from)) (q .present),
+    ))
 
 -- so it is the leader
 pub lead-the : (n : ℕ) (g : ℕ → Entry) (b : Candidate) → IsLead n g b → leaderTo n g ≡ Leads b
 lead-the n g b p = go (leaderTo n g) refl
   where
     go : (l : Leader) → leaderTo n g ≡ l → leaderTo n g ≡ Leads b
-    go Nobody e = no-value (g (b .process - 1)) (b .value) (p .present) (lead-none n g e (b .process - 1) (omega (arith, p .to, p .from)))
+    go Nobody e =
+        no-value (g (b .process - 1)) (b .value) (p .present)
+        (lead-none n g e (b .process - 1) (omega (arith, p .to, p .from)))
     go (Leads a) e = e ∙ ap Leads (lead-one n g a b (lead-is n g a e) p)
 
 pub none-lead : (n : ℕ) (g : ℕ → Entry) → ((i : ℕ) → i < n → g i ≡ Absent) → leaderTo n g ≡ Nobody

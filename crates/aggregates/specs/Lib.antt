@@ -7,5 +7,4 @@ pub mod Entries
 pub mod Leader
 pub mod LeaderLaws
 pub mod Refusals
-pub mod Sum
 pub mod Whole

@@ -1,10 +1,16 @@
 // Aggregates of global data (document 01: sums of a sheet): of n entries and their present marks, bit i for entry i.
 // No word under an absent entry is read.
+use global_data::Entry;
+use sets::one_to;
+use sets::set_within;
 ghost use mathlib.Core.Path.{_≡_};
 ghost use Prim.Native.Nat.{_<_, _≤_};
 ghost use lib.ListN.{length};
 ghost use lib.IntN.{pos, _-ℤ_};
-ghost use Rattle.aggregates.specs.Aggregates.{within, inside, refusalOf, total, go, led, changed, totalOf, goOf, leadOf, changeOf};
+ghost use Rattle.sets.specs.Truth.{oneTo};
+ghost use Rattle.sets.specs.Set.{within};
+ghost use Rattle.aggregates.specs.Aggregates.{refusalOf, total, go, led, changed};
+ghost use Rattle.aggregates.specs.Aggregates.{totalOf, goOf, leadOf, changeOf};
 ghost use Rattle.aggregates.specs.Answers.{totalMeans, goMeans, leadMeans, changeMeans};
 ghost use Rattle.aggregates.specs.Entries.{entryAt, countsFor, served};
 ghost use Rattle.aggregates.specs.Leader.{better, contend, withEntry, leaderTo};
@@ -34,12 +40,6 @@ pub enum ChangeAnswer {
     Refused(Refusal),
 }
 
-// An entry: document 01's blank, or a count.
-pub enum Entry {
-    Absent,
-    Value(u32),
-}
-
 // A process, by its number from 1, with its value.
 pub struct Candidate {
     pub process: u8,
@@ -52,29 +52,14 @@ pub enum Leader {
     Leads(Candidate),
 }
 
-// p is from 1 to k.
-fn is_within(k: u8, p: u8) -> bool
-    ensures { λ r. ⌜ r ≡ within k p ⌝ }
-{
-    if p == 0 { false } else { p <= k }
-}
-
-// No mark is at or past n.
-fn is_inside(n: u8, marks: u16) -> bool
-    requires { ⌜ n ≤ 16 ⌝ }
-    ensures { λ r. ⌜ r ≡ inside n marks ⌝ }
-{
-    sets::difference(marks, sets::all(n as usize)) == 0
-}
-
 // The number of the first check that fails, or 0. named: the process, where the call uses one, is from 1 to n.
 fn first_refusal(n: u8, marks: u16, named: bool, entries: usize) -> u8
     ensures { λ r. ⌜ r ≡ refusalOf n marks named entries ⌝ }
 {
-    if !is_within(16, n) {
+    if !one_to(16, n) {
         return 1;
     }
-    if !is_inside(n, marks) {
+    if !set_within(n, marks) {
         return 5;
     }
     if !named {
@@ -249,7 +234,7 @@ pub fn lead(n: u8, entries: &[u32], marks: u16) -> LeadAnswer
 pub fn change(n: u8, entries: &[u32], marks: u16, process: u8, standing: u32) -> ChangeAnswer
     ensures { λ r. ⌜ changeMeans r ≡ changeOf n (now (entries .entry)) marks process standing ⌝ }
 {
-    let number = first_refusal(n, marks, is_within(n, process), entries.len());
+    let number = first_refusal(n, marks, one_to(n, process), entries.len());
     if number != 0 {
         return ChangeAnswer::Refused(Refusal { number });
     }

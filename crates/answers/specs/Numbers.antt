@@ -13,8 +13,8 @@ use Rattle.bench.specs.declared.Listed.the-variants.{Count, Refused as RefusedL
 use Rattle.bench.specs.declared.Counters.{Counters}
 use Rattle.bench.specs.declared.Opened.{Opened}
 use Rattle.bench.specs.declared.Ended.{Ended}
-use Rattle.bench.specs.Calls.{openOf}
-use Rattle.one_record.specs.StepLaws.{answerTo, isAccepted, crashByte, tallied}
+use Rattle.bench.specs.Calls.{openOf, tallied}
+use Rattle.one_record.specs.OneRecord.{answerTo, isAccepted, crashByte}
 use Rattle.answers.specs.declared.HostOpened.{HostOpened}
 use Rattle.answers.specs.declared.HostStepped.{HostStepped}
 use Rattle.answers.specs.declared.Progress.{Progress}
@@ -61,7 +61,8 @@ unfoldable pub progressOf : Ended → Progress
 progressOf e = record { accepted = e .accepted; taken = e .taken }
 
 unfoldable pub hostRanOf : Reached → HostRan
-hostRanOf r = record { progress = record { accepted = r .accepted; taken = r .taken }; number = causeNumber (r .cause) }
+hostRanOf r =
+    record { progress = record { accepted = r .accepted; taken = r .taken }; number = causeNumber (r .cause) }
 
 -- a run of the record in l, if there is one
 unfoldable pub hostSteppedOf : Reached → List ℕ → Counters → HostStepped

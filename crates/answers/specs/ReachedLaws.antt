@@ -1,5 +1,5 @@
--- What the two calls that run a lent bench make of how the run ended is what their contracts say: of a run by its definition, and of one record
--- since a run of the record in the bytes is the call for it (`step-run`).
+-- What the two calls that run a lent bench make of how the run ended is what their contracts say: of a run by its
+-- definition, and of one record since a run of the record in the bytes is the call for it (`step-run`).
 use mathlib.Core.Path.{_≡_, refl, ap, _∙_}
 use mathlib.Core.List.{List}
 use Prim.Native.Nat.{ℕ}
@@ -8,8 +8,9 @@ use Rattle.bench.specs.declared.Answer.{Answer}
 use Rattle.bench.specs.declared.Counters.{Counters}
 use Rattle.bench.specs.declared.Ended.{Ended}
 use Rattle.bench.specs.declared.Stepped.{Stepped}
-use Rattle.bench.specs.Calls.{stepOf, tallyOf, runOf}
-use Rattle.one_record.specs.StepLaws.{recordIn, answerTo, steppedBy, step-run, isAccepted, crashByte, tallied, tally-step}
+use Rattle.bench.specs.Calls.{stepOf, tallyOf, runOf, tallied}
+use Rattle.one_record.specs.OneRecord.{recordIn, answerTo, steppedBy, isAccepted, crashByte}
+use Rattle.one_record.specs.StepLaws.{step-run, tally-step}
 use Rattle.answers.specs.Numbers.{answerNumber, causeNumber, reachedOf, progressOf, hostRanOf, hostSteppedOf}
 
 -- ---- a run

@@ -1,4 +1,5 @@
-// What each call answers a host as a number, with the bench by value: the exported calls are thin over these functions.
+// What each call answers a host as a number, with the bench by value: the exported calls
+// are thin over these functions.
 use bench::Answer;
 use bench::Bench;
 use bench::Cause;
@@ -11,8 +12,10 @@ use one_record::answer_to;
 use one_record::tally_after;
 use transit::in_transit;
 ghost use mathlib.Core.Path.{_≡_};
-ghost use Rattle.bench.specs.Calls.{showOf, shownIn, listOf, listedIn};
-ghost use Rattle.answers.specs.Numbers.{answerNumber, causeNumber, shownNumber, listedNumber, hostOpenedOf, reachedOf, hostRanOf, hostSteppedOf};
+ghost use Rattle.bench.specs.Calls.{showOf, shownIn};
+ghost use Rattle.bench.specs.TransitList.{listOf, listedIn};
+ghost use Rattle.answers.specs.Numbers.{answerNumber, causeNumber, shownNumber, listedNumber};
+ghost use Rattle.answers.specs.Numbers.{hostOpenedOf, reachedOf, hostRanOf, hostSteppedOf};
 
 // What opening gives a host.
 pub struct HostOpened {
@@ -146,7 +149,8 @@ pub fn show_by(b: Bench, process: u8, out: &mut [u32]) -> u64
 }
 
 pub fn list_by(b: Bench, out: &mut [u8]) -> u64
-    ensures { λ r. ⌜ (r ≡ listedNumber (listOf b (now (out .entry)))) × (now (out .exit) ≡ listedIn b (now (out .entry))) ⌝ }
+    ensures { λ r.
+        ⌜ (r ≡ listedNumber (listOf b (now (out .entry)))) × (now (out .exit) ≡ listedIn b (now (out .entry))) ⌝ }
 {
     listed_number(in_transit(b, out))
 }

@@ -1,12 +1,14 @@
--- What the calls for a process's global data and for the list in transit answer and write, by the first check that fails.
+-- What the calls for a process's global data and for the list in transit answer and write,
+-- by the first check that fails.
 use mathlib.Core.Path.{_≡_, refl, sym, ap, _∙_}
 use mathlib.Core.List.{List, _++_}
 use mathlib.Core.Bool.{Bool, true, false, not}
 use Prim.Native.Nat.{ℕ, suc, _-_, _/_, _≤_, _<_}
 use native.Mathlib.Omega.{arith}
 use lib.ListN.{length, drop}
-use Rattle.sets.specs.Each.{each}
-use Rattle.sets.specs.Truth.{same, below, choose, choose-on, choose-off, same-mk, same-off, below-mk, below-off}
+use Rattle.sets.specs.Lists.{each}
+use Rattle.sets.specs.Truth.{same, below, choose, oneTo, check}
+use Rattle.sets.specs.TruthLaws.{choose-on, choose-off, same-mk, same-off, below-mk, below-off, check-on, check-off}
 use Rattle.process.specs.Steps.{hasDecided}
 use Rattle.bench.specs.declared.Bench.{Bench}
 use Rattle.bench.specs.declared.Shown.{Shown}
@@ -15,10 +17,8 @@ use Rattle.bench.specs.declared.Listed.{Listed}
 use Rattle.bench.specs.declared.Listed.the-variants.{Count, Refused as RefusedList}
 use Rattle.bench.specs.Sound.{soundOf}
 use Rattle.bench.specs.State.{processAt}
-use Rattle.bench.specs.Record.{isProcess}
-use Rattle.bench.specs.Refuse.{check}
-use Rattle.bench.specs.RefuseLaws.{check-on, check-off}
-use Rattle.bench.specs.Calls.{refused, wordAt, showRefusal, showOf, shownIn, transitBytes, listRefusal, listOf, listedIn}
+use Rattle.bench.specs.Calls.{refused, wordAt, showRefusal, showOf, shownIn}
+use Rattle.bench.specs.TransitList.{transitBytes, listRefusal, listOf, listedIn}
 
 -- a slice of length x is long enough for y, or too short
 long : (x y : ℕ) → y ≤ x → not (below x y) ≡ true
@@ -42,11 +42,11 @@ module _ (s : Bench) (x : ℕ) (out : List ℕ) where
   show-damaged e = check-off _ _ _ e
 
   module _ (e : soundOf s ≡ true) where
-    pub show-unknown : isProcess (s .n) x ≡ false → showRefusal s x out ≡ 5
+    pub show-unknown : oneTo (s .n) x ≡ false → showRefusal s x out ≡ 5
     unfolding showRefusal
     show-unknown u = check-on _ _ _ e ∙ check-off _ _ _ u
 
-    module _ (i : isProcess (s .n) x ≡ true) where
+    module _ (i : oneTo (s .n) x ≡ true) where
       pub show-short : length out < s .n → showRefusal s x out ≡ 10
       unfolding showRefusal
       show-short h = check-on _ _ _ e ∙ check-on _ _ _ i ∙ check-off _ _ _ (short (length out) (s .n) h)
@@ -94,6 +94,7 @@ module _ (s : Bench) (out : List ℕ) where
   list-refused k e = (by-number _ _ (λ r. RefusedList (refused r)) k e, by-number _ _ (λ r. out) k e)
 
   pub list-listed : listRefusal s out ≡ 0
-      → (listOf s out ≡ Count (length (transitBytes s) / 3)) × (listedIn s out ≡ transitBytes s ++ drop (length (transitBytes s)) out)
+      → (listOf s out ≡ Count (length (transitBytes s) / 3))
+      × (listedIn s out ≡ transitBytes s ++ drop (length (transitBytes s)) out)
   unfolding listOf listedIn
   list-listed e = (by-none _ _ (λ r. RefusedList (refused r)) e, by-none _ _ (λ r. out) e)

@@ -1,13 +1,16 @@
--- The calls (document 01, "The other calls"): open, one record with the tally, run, global data of a process, list in transit.
+-- The calls (document 01, "The other calls"): open, one record with the tally, run, global data of a process.
+-- The list in transit: TransitList.
 use mathlib.Core.List.{List, [], _∷_, _++_}
 use mathlib.Core.Bool.{Bool, true, false, not}
 use Prim.Native.Nat.{ℕ, zero, suc, _+_, _-_, _*_, _/_}
 use lib.ListN.{getD, length, take, drop}
-use Rattle.sets.specs.Each.{each}
+use Rattle.sets.specs.Lists.{each}
 use Rattle.sets.specs.Set.{has}
-use Rattle.sets.specs.Truth.{_&&_, same, below, choose}
+use Rattle.sets.specs.Truth.{_&&_, same, below, choose, oneTo, check}
 use Rattle.global_data.specs.declared.GlobalData.{GlobalData}
-use Rattle.global_data.specs.GlobalData.{Entry, absent, value, entryOf, noData}
+use Rattle.global_data.specs.declared.Entry.{Entry}
+use Rattle.global_data.specs.declared.Entry.the-variants.{Absent, Value}
+use Rattle.global_data.specs.GlobalData.{entryOf, noData}
 use Rattle.process.specs.declared.Process.{Process}
 use Rattle.process.specs.Steps.{hasDecided}
 use Rattle.bench.specs.declared.Bench.{Bench}
@@ -18,20 +21,16 @@ use Rattle.bench.specs.declared.Cause.{Cause}
 use Rattle.bench.specs.declared.Cause.the-variants.{Empty, Spent, Refused as RefusedRun}
 use Rattle.bench.specs.declared.Shown.{Shown}
 use Rattle.bench.specs.declared.Shown.the-variants.{Marks, Refused as RefusedShow}
-use Rattle.bench.specs.declared.Listed.{Listed}
-use Rattle.bench.specs.declared.Listed.the-variants.{Count, Refused as RefusedList}
 use Rattle.bench.specs.declared.Opened.{Opened}
 use Rattle.bench.specs.declared.Stepped.{Stepped}
 use Rattle.bench.specs.declared.Counters.{Counters}
 use Rattle.bench.specs.declared.Ended.{Ended}
-use Rattle.bench.specs.declared.Event.{Event}
-use Rattle.bench.specs.declared.Event.the-variants.{Start, Send, Arrive, Close, Crash, Suspect}
 use Rattle.bench.specs.declared.Decoded.{Decoded}
 use Rattle.bench.specs.declared.Decoded.the-variants.{Got, Refused as RefusedDecoded}
 use Rattle.bench.specs.State.{processAt, transitAt, openedOf}
 use Rattle.bench.specs.Sound.{opens, soundOf}
-use Rattle.bench.specs.Record.{isProcess, decodeOf}
-use Rattle.bench.specs.Refuse.{refusal, check}
+use Rattle.bench.specs.Record.{decodeOf}
+use Rattle.bench.specs.Refuse.{isCrash, refusal}
 use Rattle.bench.specs.Effect.{effectOf}
 
 -- a refusal with its number
@@ -49,43 +48,38 @@ openOf n t =
     (record { answer = Refused (refused 1); bench = openedOf 0 0 })
 
 -- ---- one record: a refused one leaves the bench as it is
-unfoldable pub after : Bench → List ℕ → Bench
-after s bytes = choose (same (refusal s bytes) 0) (effectOf s bytes) s
+unfoldable pub afterRecord : Bench → List ℕ → Bench
+afterRecord s bytes = choose (same (refusal s bytes) 0) (effectOf s bytes) s
 
 unfoldable pub stepOf : Bench → List ℕ → Stepped
-stepOf s bytes = record { answer = answerOf (refusal s bytes); bench = after s bytes }
+stepOf s bytes = record { answer = answerOf (refusal s bytes); bench = afterRecord s bytes }
 
--- ---- the tally: accepted, refused and stops, each of 32 bits and staying at its largest value
+-- ---- the tally: accepted, refused and crashes, each of 32 bits and staying at its largest value
 unfoldable pub more : Bool → ℕ → ℕ
 more counts x = choose (counts && below x 4294967295) (x + 1) x
 
-unfoldable pub isCrash : Decoded → Bool
-isCrash (Got (Start a v)) = false
-isCrash (Got (Send a b)) = false
-isCrash (Got (Arrive a b m)) = false
-isCrash (Got (Close a)) = false
-isCrash (Got (Crash a)) = true
-isCrash (Got (Suspect a b)) = false
-isCrash (RefusedDecoded r) = false
+-- after a record, by whether it was accepted and whether it is a crash
+unfoldable pub tallied : Bool → Bool → Counters → Counters
+tallied ok crash c =
+    record {
+      accepted = more ok (c .accepted);
+      refused = more (not ok) (c .refused);
+      crashes = more (ok && crash) (c .crashes);
+    }
 
--- an accepted stop
-unfoldable pub stops : Bench → List ℕ → Bool
-unfolding isCrash
-stops s bytes = same (refusal s bytes) 0 && isCrash (decodeOf (s .n) (s .t) bytes)
+unfoldable pub crashIn : Decoded → Bool
+crashIn (Got e) = isCrash e
+crashIn (RefusedDecoded r) = false
 
 unfoldable pub tallyOf : Bench → List ℕ → Counters → Counters
-tallyOf s bytes c =
-    record {
-      accepted = more (same (refusal s bytes) 0) (c .accepted);
-      refused = more (not (same (refusal s bytes) 0)) (c .refused);
-      crashes = more (stops s bytes) (c .crashes);
-    }
+tallyOf s bytes c = tallied (same (refusal s bytes) 0) (crashIn (decodeOf (s .n) (s .t) bytes)) c
 
 -- ---- run: until the schedule is empty, the budget spent or a record refused, tested in that order
 unfoldable pub endedOf : Bench → ℕ → Cause → ℕ → Ended
 endedOf s accepted cause taken = record { bench = s; accepted = accepted; cause = cause; taken = taken }
 
--- with a budget, the bytes not yet taken, and what was accepted and taken so far. A last part shorter than 8 bytes is a record of that length.
+-- with a budget, the bytes not yet taken, and what was accepted and taken so far.
+-- A last part shorter than 8 bytes is a record of that length.
 unfoldable pub runFrom : ℕ → List ℕ → Bench → ℕ → ℕ → Ended
 runFrom zero l s accepted taken = endedOf s accepted (choose (same (length l) 0) Empty Spent) taken
 runFrom (suc budget) l s accepted taken =
@@ -98,7 +92,8 @@ runFrom (suc budget) l s accepted taken =
 unfoldable pub runOf : ℕ → List ℕ → Bench → Ended
 runOf budget l s = choose (soundOf s) (runFrom budget l s 0 0) (endedOf s 0 (RefusedRun (refused 2)) 0)
 
--- ---- global data of a process (document 01: sheet of a terminal), written to a lent slice: absent as 0, words past n untouched
+-- ---- global data of a process (document 01: sheet of a terminal), written to a lent slice:
+-- absent as 0, words past n untouched
 unfoldable pub wordAt : GlobalData → ℕ → ℕ
 wordAt g k = choose (has (g .present) k) (getD (g .values) k 0) 0
 
@@ -106,7 +101,7 @@ wordAt g k = choose (has (g .present) k) (getD (g .values) k 0) 0
 unfoldable pub showRefusal : Bench → ℕ → List ℕ → ℕ
 showRefusal s x out =
     check (soundOf s) 2
-    (check (isProcess (s .n) x) 5
+    (check (oneTo (s .n) x) 5
     (check (not (below (length out) (s .n))) 10 (check (hasDecided (processAt s (x - 1))) 11 0)))
 
 unfoldable pub showOf : Bench → ℕ → List ℕ → Shown
@@ -117,26 +112,3 @@ showOf s x out =
 unfoldable pub shownIn : Bench → ℕ → List ℕ → List ℕ
 shownIn s x out =
     choose (same (showRefusal s x out) 0) (each (s .n) (wordAt (processAt s (x - 1) .estimate)) ++ drop (s .n) out) out
-
--- ---- the list in transit (document 01: in flight): by round, decisions first as 0, then sender, then receiver; a, b and r in three bytes
-unfoldable pub joined : ℕ → (ℕ → List ℕ) → List ℕ
-joined zero f = []
-joined (suc k) f = joined k f ++ f k
-
-unfoldable pub messageBytes : Bench → ℕ → ℕ → ℕ → List ℕ
-messageBytes s r a b = choose (has (transitAt s a r) b) ((a + 1) ∷ (b + 1) ∷ r ∷ []) []
-
-unfoldable pub transitBytes : Bench → List ℕ
-transitBytes s = joined (s .t + 2) (λ r. joined (s .n) (λ a. joined (s .n) (messageBytes s r a)))
-
--- 2, 10, or 0
-unfoldable pub listRefusal : Bench → List ℕ → ℕ
-listRefusal s out = check (soundOf s) 2 (check (not (below (length out) (length (transitBytes s)))) 10 0)
-
-unfoldable pub listOf : Bench → List ℕ → Listed
-listOf s out =
-    let r = listRefusal s out in
-    choose (same r 0) (Count (length (transitBytes s) / 3)) (RefusedList (refused r))
-
-unfoldable pub listedIn : Bench → List ℕ → List ℕ
-listedIn s out = choose (same (listRefusal s out) 0) (transitBytes s ++ drop (length (transitBytes s)) out) out

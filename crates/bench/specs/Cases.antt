@@ -1,23 +1,31 @@
--- The starred cases 1 to 8 of document 01, as one table, and one theorem that the definitions give each of them its answers and its end.
+-- The starred cases 1 to 8 of document 01, as one table, and one theorem that the definitions give each
+-- of them its answers and its end.
 use mathlib.Core.Path.{_≡_, refl}
 use mathlib.Core.List.{List, [], _∷_}
 use mathlib.Core.Bool.{Bool, true, false}
 use Prim.Native.Nat.{ℕ, zero, suc, _+_}
 use lib.Count.{ones}
-use Rattle.sets.specs.Each.{each}
-use Rattle.sets.specs.Every.{every as everyBelow}
-use Rattle.sets.specs.Set.{has, insertOf, removeOf, unionOf, intersectionOf, differenceOf, allOf, sizeOf}
-use Rattle.sets.specs.Truth.{_&&_, _||_, same, below, choose}
-use Rattle.global_data.specs.GlobalData.{Entry, absent, value, entryOf, sameEntry, nothingOf, oneOf, filledWord, fillOf, fillFrom, sameTo, allSame}
-use Rattle.process.specs.Steps.{hasDecided, idleOf, takesPart, openOf, startOf, keeps, receiveOf, arrivedOf, dueOf, nextOf, peersOf, filledOf, agreedOf, decidesOf, owedOf, decideOf, advanceOf, closeOf, adoptOf, messageOf, sendOf, suspectOf}
+use Rattle.sets.specs.Lists.{each, every, everyIn}
+use Rattle.sets.specs.Set.{has, insertOf, removeOf, unionOf, intersectionOf, differenceOf, allOf, sizeOf, within}
+use Rattle.sets.specs.Truth.{_&&_, _||_, same, below, choose, oneTo, check}
+use Rattle.global_data.specs.declared.Entry.{Entry}
+use Rattle.global_data.specs.declared.Entry.the-variants.{Absent, Value}
+use Rattle.global_data.specs.GlobalData.{entryOf, sameEntry, nothingOf, oneOf}
+use Rattle.global_data.specs.GlobalData.{filledWord, fillOf, fillFrom, sameTo, allSame}
+use Rattle.process.specs.Steps.{hasDecided, idleOf, takesPart, openRoundOf, startOf, keeps, receiveOf}
+use Rattle.process.specs.Steps.{arrivedOf, dueOf, nextOf, peersOf, filledOf, agreedOf, decidesOf, owedOf}
+use Rattle.process.specs.Steps.{decideOf, advanceOf, closeOf, adoptOf, messageOf, sendOf, suspectOf}
 use Rattle.process.specs.declared.Process.{Process}
 use Rattle.bench.specs.declared.Bench.{Bench}
-use Rattle.bench.specs.State.{processAt, sentAt, transitAt, crashedAt, withProcess, withSent, withTransit, withCrashed, openedOf}
-use Rattle.bench.specs.Sound.{opens, every, within, soundData, soundProcess, soundOf}
-use Rattle.bench.specs.Record.{wordOf, isProcess, usesB, usesR, usesValue, fieldB, fieldR, fieldValue, fields, messageFrom, eventOf, partsOf, decodeOf}
-use Rattle.bench.specs.Refuse.{check, numberOf, actor, possible, ready, allowed, refuses, refusesDecoded, refusal}
+use Rattle.bench.specs.State.{processAt, sentAt, transitAt, crashedAt, withProcess}
+use Rattle.bench.specs.State.{withSent, withTransit, withCrashed, openedOf}
+use Rattle.bench.specs.Sound.{opens, soundData, soundProcess, soundOf}
+use Rattle.bench.specs.Record.{wordOf, usesB, usesR, usesValue, fieldB, fieldR}
+use Rattle.bench.specs.Record.{fieldValue, fields, messageFrom, eventOf, partsOf, decodeOf}
+use Rattle.bench.specs.Refuse.{numberOf, actor, isCrash, passes7, passes8}
+use Rattle.bench.specs.Refuse.{passes9, refuses, refusesDecoded, refusal}
 use Rattle.bench.specs.Effect.{opensRound, rowsAt, sends, arrives, closesAs, effect, effectDecoded, effectOf}
-use Rattle.bench.specs.Calls.{after}
+use Rattle.bench.specs.Calls.{afterRecord}
 
 -- a record's bytes: kind, a, b, r, and a value below 256
 bytes : ℕ → ℕ → ℕ → ℕ → ℕ → List ℕ
@@ -51,7 +59,12 @@ pub record Line : Type 0 where
   pub current : ℕ
   pub entries : List Entry
 
--- a schedule on a bench of n and t: the refusal at opening or 0, the records, the answer to each, and some processes at the end
+-- its number, round, whether it crashed and decided, current set, entries
+abbrev line : ℕ → ℕ → Bool → Bool → ℕ → List Entry → Line
+line a r c d m l = record { process = a; round = r; crashed = c; decided = d; current = m; entries = l }
+
+-- a schedule on a bench of n and t: the refusal at opening or 0, the records, the answer to each,
+-- and some processes at the end
 pub record Case : Type 0 where
   pub n : ℕ
   pub t : ℕ
@@ -63,11 +76,11 @@ pub record Case : Type 0 where
 -- the answers, and the bench at the end
 answersOf : Bench → List (List ℕ) → List ℕ
 answersOf s [] = []
-answersOf s (r ∷ rs) = refusal s r ∷ answersOf (after s r) rs
+answersOf s (r ∷ rs) = refusal s r ∷ answersOf (afterRecord s r) rs
 
 endOf : Bench → List (List ℕ) → Bench
 endOf s [] = s
-endOf s (r ∷ rs) = endOf (after s r) rs
+endOf s (r ∷ rs) = endOf (afterRecord s r) rs
 
 sameBool : Bool → Bool → Bool
 sameBool true b = b
@@ -99,13 +112,14 @@ pub passes : Case → Bool
 passes c =
     let s = openedOf (c .n) (c .t) in
     same (choose (opens (c .n) (c .t)) 0 1) (c .opening)
-    && (sameList (answersOf s (c .records)) (c .answers) && every (sameLine (endOf s (c .records))) (c .lines))
+    && (sameList (answersOf s (c .records)) (c .answers) && everyIn (sameLine (endOf s (c .records))) (c .lines))
 
 -- every process sends its message to each of two others; each of them arrives
 round3 : ℕ → List (List ℕ) → List (List ℕ)
 round3 r rest =
     send 1 2 ∷ send 1 3 ∷ send 2 1 ∷ send 2 3 ∷ send 3 1 ∷ send 3 2
-    ∷ arrive 1 2 r ∷ arrive 1 3 r ∷ arrive 2 1 r ∷ arrive 2 3 r ∷ arrive 3 1 r ∷ arrive 3 2 r ∷ close 1 ∷ close 2 ∷ close 3 ∷ rest
+    ∷ arrive 1 2 r ∷ arrive 1 3 r ∷ arrive 2 1 r ∷ arrive 2 3 r ∷ arrive 3 1 r ∷ arrive 3 2 r ∷ close 1 ∷ close 2
+    ∷ close 3 ∷ rest
 
 -- no answer is a refusal
 noRefusal : List (List ℕ) → List ℕ
@@ -122,12 +136,13 @@ case1 =
       opening = 0;
       records = start 1 7 ∷ close 1 ∷ [];
       answers = 0 ∷ 0 ∷ [];
-      lines = record { process = 1; round = 1; crashed = false; decided = true; current = 1; entries = value 7 ∷ [] } ∷ [];
+      lines =
+          line 1 1 false true 1 (Value 7 ∷ []) ∷ [];
     }
 
 -- 2: three processes, no crash, all decide in round 2
 allThree : ℕ → Line
-allThree a = record { process = a; round = 2; crashed = false; decided = true; current = 7; entries = value 5 ∷ value 6 ∷ value 7 ∷ [] }
+allThree a = line a 2 false true 7 (Value 5 ∷ Value 6 ∷ Value 7 ∷ [])
 
 case2 : Case
 case2 =
@@ -150,7 +165,8 @@ case3 =
       opening = 0;
       records = start 1 0 ∷ close 1 ∷ [];
       answers = 0 ∷ 0 ∷ [];
-      lines = record { process = 1; round = 1; crashed = false; decided = true; current = 1; entries = value 0 ∷ [] } ∷ [];
+      lines =
+          line 1 1 false true 1 (Value 0 ∷ []) ∷ [];
     }
 
 -- 4: the program's input, all twelve answers and both final lines; 6 on top of it: a crash too many
@@ -161,12 +177,13 @@ case4and6 =
       t = 1;
       opening = 0;
       records =
-          start 1 40 ∷ start 2 25 ∷ send 1 2 ∷ send 2 1 ∷ arrive 1 2 1 ∷ arrive 2 1 1 ∷ close 1 ∷ crash 2 ∷ send 1 2 ∷ close 1
+          start 1 40 ∷ start 2 25 ∷ send 1 2 ∷ send 2 1 ∷ arrive 1 2 1 ∷ arrive 2 1 1 ∷ close 1 ∷ crash 2 ∷ send 1 2
+          ∷ close 1
           ∷ suspect 1 2 ∷ close 1 ∷ crash 1 ∷ [];
       answers = 0 ∷ 0 ∷ 0 ∷ 0 ∷ 0 ∷ 0 ∷ 0 ∷ 0 ∷ 0 ∷ 8 ∷ 0 ∷ 0 ∷ 9 ∷ [];
       lines =
-          record { process = 1; round = 2; crashed = false; decided = true; current = 3; entries = value 40 ∷ value 25 ∷ [] }
-          ∷ record { process = 2; round = 1; crashed = true; decided = false; current = 3; entries = absent ∷ value 25 ∷ [] } ∷ [];
+          line 1 2 false true 3 (Value 40 ∷ Value 25 ∷ [])
+          ∷ line 2 1 true false 3 (Absent ∷ Value 25 ∷ []) ∷ [];
     }
 
 -- 5: sizes that open and sizes that do not
@@ -182,7 +199,7 @@ case7 =
       opening = 0;
       records = start 1 40 ∷ start 2 25 ∷ send 1 2 ∷ send 2 1 ∷ arrive 2 1 1 ∷ crash 2 ∷ suspect 1 2 ∷ close 1 ∷ [];
       answers = 0 ∷ 0 ∷ 0 ∷ 0 ∷ 0 ∷ 0 ∷ 0 ∷ 0 ∷ [];
-      lines = record { process = 1; round = 2; crashed = false; decided = false; current = 3; entries = value 40 ∷ value 25 ∷ [] } ∷ [];
+      lines = line 1 2 false false 3 (Value 40 ∷ Value 25 ∷ []) ∷ [];
     }
 
 -- 8: equal estimates with previous and next differing, in a round below t + 1: no decision
@@ -194,7 +211,7 @@ case8 =
       opening = 0;
       records = start 1 5 ∷ crash 2 ∷ suspect 1 2 ∷ send 1 2 ∷ close 1 ∷ [];
       answers = 0 ∷ 0 ∷ 0 ∷ 0 ∷ 0 ∷ [];
-      lines = record { process = 1; round = 2; crashed = false; decided = false; current = 1; entries = value 5 ∷ absent ∷ [] } ∷ [];
+      lines = line 1 2 false false 1 (Value 5 ∷ Absent ∷ []) ∷ [];
     }
 
 -- one more: the estimate sent in a round is the one held when it opened, though its sender has since closed that round
@@ -205,25 +222,30 @@ case9 =
       t = 2;
       opening = 0;
       records =
-          start 1 5 ∷ start 2 6 ∷ start 3 7 ∷ send 1 2 ∷ send 1 3 ∷ send 2 1 ∷ send 2 3 ∷ send 3 1 ∷ arrive 1 2 1 ∷ arrive 2 1 1
+          start 1 5 ∷ start 2 6 ∷ start 3 7 ∷ send 1 2 ∷ send 1 3 ∷ send 2 1 ∷ send 2 3 ∷ send 3 1 ∷ arrive 1 2 1
+          ∷ arrive 2 1 1
           ∷ arrive 3 1 1 ∷ close 1 ∷ crash 3 ∷ suspect 2 3 ∷ close 2 ∷ [];
       answers = 0 ∷ 0 ∷ 0 ∷ 0 ∷ 0 ∷ 0 ∷ 0 ∷ 0 ∷ 0 ∷ 0 ∷ 0 ∷ 0 ∷ 0 ∷ 0 ∷ 0 ∷ [];
       lines =
-          record { process = 1; round = 2; crashed = false; decided = false; current = 7; entries = value 5 ∷ value 6 ∷ value 7 ∷ [] }
-          ∷ record { process = 2; round = 2; crashed = false; decided = false; current = 3; entries = value 5 ∷ value 6 ∷ absent ∷ [] } ∷ [];
+          line 1 2 false false 7 (Value 5 ∷ Value 6 ∷ Value 7 ∷ [])
+          ∷ line 2 2 false false 3 (Value 5 ∷ Value 6 ∷ Absent ∷ []) ∷ [];
     }
 
 pub table : List Case
 table = case1 ∷ case2 ∷ case3 ∷ case4and6 ∷ sizes 16 15 0 ∷ sizes 17 0 1 ∷ sizes 0 0 1 ∷ case7 ∷ case8 ∷ case9 ∷ []
 
 -- every case passes: the checker computes it from the definitions
-pub cases : every passes table ≡ true
-unfolding bytes start send arrive close crash suspect answersOf endOf sameBool sameList sameEntries pred sameLine passes
+pub cases : everyIn passes table ≡ true
+unfolding bytes start send arrive close crash suspect answersOf endOf sameBool sameList sameEntries
+    pred sameLine passes
     round3 noRefusal allThree case1 case2 case3 case4and6 sizes case7 case8 case9 table
     has insertOf removeOf unionOf intersectionOf differenceOf allOf sizeOf ones _&&_ _||_ same below choose
-    entryOf sameEntry each everyBelow nothingOf oneOf filledWord fillOf fillFrom sameTo allSame
-    idleOf hasDecided takesPart openOf startOf keeps receiveOf arrivedOf dueOf nextOf peersOf filledOf agreedOf decidesOf owedOf decideOf advanceOf closeOf adoptOf messageOf sendOf suspectOf
-    processAt sentAt transitAt crashedAt withProcess withSent withTransit withCrashed openedOf opens every within soundData soundProcess soundOf
-    wordOf isProcess usesB usesR usesValue fieldB fieldR fieldValue fields messageFrom eventOf partsOf decodeOf check numberOf actor possible ready allowed refuses refusesDecoded refusal
-    opensRound rowsAt sends arrives closesAs effect effectDecoded effectOf after
+    entryOf sameEntry each every nothingOf oneOf filledWord fillOf fillFrom sameTo allSame
+    idleOf hasDecided takesPart openRoundOf startOf keeps receiveOf arrivedOf dueOf nextOf peersOf filledOf agreedOf
+    decidesOf owedOf decideOf advanceOf closeOf adoptOf messageOf sendOf suspectOf
+    processAt sentAt transitAt crashedAt withProcess withSent withTransit withCrashed openedOf opens everyIn within
+    soundData soundProcess soundOf
+    wordOf oneTo usesB usesR usesValue fieldB fieldR fieldValue fields messageFrom eventOf partsOf decodeOf check
+    numberOf actor isCrash passes7 passes8 passes9 refuses refusesDecoded refusal
+    opensRound rowsAt sends arrives closesAs effect effectDecoded effectOf afterRecord
 cases = refl

@@ -1,4 +1,5 @@
--- What an accepted record does to the bench: the protocol steps of document 01, which `process` has for one process, and what they send.
+-- What an accepted record does to the bench: the protocol steps of document 01, which `process` has for
+-- one process, and what they send.
 use mathlib.Core.List.{List}
 use mathlib.Core.Bool.{Bool, true, false}
 use Prim.Native.Nat.{ℕ}
@@ -43,7 +44,8 @@ effect (Send a b) s = sends (withProcess s a (sendOf b (processAt s a))) a (mess
 -- step 3
 effect (Arrive a b (Estimate r)) s = arrives (withProcess s b (receiveOf a r (processAt s b))) a r b
 -- step 7: the global data of a decision is what its sender decided on
-effect (Arrive a b Decision) s = arrives (withProcess s b (adoptOf (s .n) b a (processAt s a .estimate) (processAt s b))) a 0 b
+effect (Arrive a b Decision) s =
+    arrives (withProcess s b (adoptOf (s .n) b a (processAt s a .estimate) (processAt s b))) a 0 b
 -- steps 4, 5 and 6
 effect (Close a) s = closesAs s a (closeOf (s .n) (s .t) a (rowsAt s (processAt s a .round)) (processAt s a))
 effect (Crash a) s = withCrashed s a

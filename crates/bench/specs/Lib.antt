@@ -2,7 +2,8 @@ pub mod CallLaws
 pub mod Calls
 pub mod Cases
 pub mod Effect
-pub mod EveryLaws
+pub mod EveryInLaws
+pub mod OneByOne
 pub mod Record
 pub mod RecordLaws
 pub mod Refuse
@@ -12,3 +13,4 @@ pub mod Sound
 pub mod SoundLaws
 pub mod State
 pub mod TransitLaws
+pub mod TransitList

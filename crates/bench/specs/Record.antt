@@ -3,7 +3,7 @@ use mathlib.Core.List.{List}
 use mathlib.Core.Bool.{Bool, true, false, not}
 use Prim.Native.Nat.{ℕ, _+_, _-_, _*_}
 use lib.ListN.{getD, length}
-use Rattle.sets.specs.Truth.{_&&_, _||_, same, below, choose}
+use Rattle.sets.specs.Truth.{_&&_, _||_, same, below, oneTo, choose}
 use Rattle.bench.specs.declared.Message.{Message}
 use Rattle.bench.specs.declared.Message.the-variants.{Estimate, Decision}
 use Rattle.bench.specs.declared.Event.{Event}
@@ -14,10 +14,6 @@ use Rattle.bench.specs.declared.Decoded.the-variants.{Got, Refused}
 -- four bytes, the low one first
 unfoldable pub wordOf : ℕ → ℕ → ℕ → ℕ → ℕ
 wordOf a b c d = a + b * 256 + c * 65536 + d * 16777216
-
--- a number 1 to n
-unfoldable pub isProcess : ℕ → ℕ → Bool
-isProcess n x = below 0 x && below x (n + 1)
 
 -- which kinds use b, r and value; all use a
 unfoldable pub usesB : ℕ → Bool
@@ -31,7 +27,7 @@ usesValue kind = same kind 1
 
 -- refusal 5: a used process is 1 to n, a and b differ, r is at most t + 1, an unused field is 0
 unfoldable pub fieldB : ℕ → ℕ → ℕ → ℕ → Bool
-fieldB n kind a b = choose (usesB kind) (isProcess n b && not (same a b)) (same b 0)
+fieldB n kind a b = choose (usesB kind) (oneTo n b && not (same a b)) (same b 0)
 
 unfoldable pub fieldR : ℕ → ℕ → ℕ → Bool
 fieldR t kind r = choose (usesR kind) (below r (t + 2)) (same r 0)
@@ -40,7 +36,7 @@ unfoldable pub fieldValue : ℕ → ℕ → Bool
 fieldValue kind v = usesValue kind || same v 0
 
 unfoldable pub fields : ℕ → ℕ → ℕ → ℕ → ℕ → ℕ → ℕ → Bool
-fields n t kind a b r v = isProcess n a && (fieldB n kind a b && (fieldR t kind r && fieldValue kind v))
+fields n t kind a b r v = oneTo n a && (fieldB n kind a b && (fieldR t kind r && fieldValue kind v))
 
 -- r of kind 3: 0 the decision, else the estimate of that round
 unfoldable pub messageFrom : ℕ → Message
@@ -57,12 +53,13 @@ eventOf kind a b r v =
 -- kind, a, b, r and value of a record: refusal 4, then 5, else the event
 unfoldable pub partsOf : ℕ → ℕ → ℕ → ℕ → ℕ → ℕ → ℕ → Decoded
 partsOf n t kind a b r v =
-    choose (below 0 kind && below kind 7)
+    choose (oneTo 6 kind)
     (choose (fields n t kind a b r v) (Got (eventOf kind (a - 1) (b - 1) r v)) (Refused (record { number = 5 })))
     (Refused (record { number = 4 }))
 
 unfoldable pub decodeOf : ℕ → ℕ → List ℕ → Decoded
 decodeOf n t l =
     choose (same (length l) 8)
-    (partsOf n t (getD l 0 0) (getD l 1 0) (getD l 2 0) (getD l 3 0) (wordOf (getD l 4 0) (getD l 5 0) (getD l 6 0) (getD l 7 0)))
+    (partsOf n t (getD l 0 0) (getD l 1 0) (getD l 2 0) (getD l 3 0)
+    (wordOf (getD l 4 0) (getD l 5 0) (getD l 6 0) (getD l 7 0)))
     (Refused (record { number = 3 }))

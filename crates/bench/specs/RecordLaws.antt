@@ -1,4 +1,5 @@
--- Laws of records: each refusal of the decoder by its test, what a decoded event ranges over, and that every event in range has its 8 bytes.
+-- Laws of records: each refusal of the decoder by its test, what a decoded event ranges over,
+-- and that every event in range has its 8 bytes.
 -- A decoded record has its parts by the tests that let it through; an event's bytes are read back digit by digit.
 use mathlib.Core.Path.{_≡_, refl, sym, ap, ap₂, _∙_}
 use mathlib.Core.Logic.{_≢_}
@@ -9,22 +10,17 @@ use native.Mathlib.Nat.{div-div-eq-div-mul}
 use native.Mathlib.Omega.{arith}
 use lib.Dec.{eqb, lit<}
 use lib.ListN.{getD, length}
-use Rattle.sets.specs.Truth.{_&&_, _||_, same, below, choose, Is, on, off, is, choose-on, choose-off, and-l, and-r, and-mk, not-on, same-on, same-mk, same-off, same-not, below-on, below-mk}
+use Rattle.sets.specs.Truth.{_&&_, _||_, same, below, choose, oneTo}
+use Rattle.sets.specs.TruthLaws.{one-low, one-high, one-mk, Is, on, off, is, choose-on, choose-off, and-l}
+use Rattle.sets.specs.TruthLaws.{and-r, and-mk, not-on, same-on, same-mk, same-off, same-not, below-on, below-mk}
 use Rattle.bench.specs.declared.Refusal.{Refusal}
 use Rattle.bench.specs.declared.Message.{Message}
 use Rattle.bench.specs.declared.Message.the-variants.{Estimate, Decision}
 use Rattle.bench.specs.declared.Event.{Event}
 use Rattle.bench.specs.declared.Event.the-variants.{Start, Send, Arrive, Close, Crash, Suspect}
 use Rattle.bench.specs.declared.Decoded.the-variants.{Got, Refused}
-use Rattle.bench.specs.Record.{wordOf, isProcess, usesB, usesR, usesValue, fieldB, fieldR, fieldValue, fields, messageFrom, eventOf, partsOf, decodeOf}
-
--- a kind that document 01 has
-unfoldable pub isKind : ℕ → Bool
-isKind kind = below 0 kind && below kind 7
-
-pub kind-on : (kind : ℕ) → 0 < kind → kind < 7 → isKind kind ≡ true
-unfolding isKind
-kind-on kind p q = and-mk (below 0 kind) (below kind 7) (below-mk 0 kind p) (below-mk kind 7 q)
+use Rattle.bench.specs.Record.{wordOf, usesB, usesR, usesValue, fieldB, fieldR}
+use Rattle.bench.specs.Record.{fieldValue, fields, messageFrom, eventOf, partsOf, decodeOf}
 
 -- the value of a record's last four bytes
 unfoldable pub valueOf : List ℕ → ℕ
@@ -32,18 +28,18 @@ valueOf l = wordOf (getD l 4 0) (getD l 5 0) (getD l 6 0) (getD l 7 0)
 
 -- ---- a record's parts: refusal 4, refusal 5, or the event
 module _ (n t kind a b r v : ℕ) where
-  pub parts-unknown : isKind kind ≡ false → partsOf n t kind a b r v ≡ Refused (record { number = 4 })
-  unfolding partsOf isKind
+  pub parts-unknown : oneTo 6 kind ≡ false → partsOf n t kind a b r v ≡ Refused (record { number = 4 })
+  unfolding partsOf
   parts-unknown e = choose-off _ _ _ e
 
-  pub parts-unfit : isKind kind ≡ true → fields n t kind a b r v ≡ false
+  pub parts-unfit : oneTo 6 kind ≡ true → fields n t kind a b r v ≡ false
       → partsOf n t kind a b r v ≡ Refused (record { number = 5 })
-  unfolding partsOf isKind
+  unfolding partsOf
   parts-unfit e f = choose-on _ _ _ e ∙ choose-off _ _ _ f
 
-  pub parts-got : isKind kind ≡ true → fields n t kind a b r v ≡ true
+  pub parts-got : oneTo 6 kind ≡ true → fields n t kind a b r v ≡ true
       → partsOf n t kind a b r v ≡ Got (eventOf kind (a - 1) (b - 1) r v)
-  unfolding partsOf isKind
+  unfolding partsOf
   parts-got e f = choose-on _ _ _ e ∙ choose-on _ _ _ f
 
 -- ---- bytes: refusal 3, or the parts
@@ -52,14 +48,15 @@ module _ (n t : ℕ) (l : List ℕ) where
   unfolding decodeOf
   decode-size h = choose-off _ _ _ (same-off (length l) 8 h)
 
-  pub decode-parts : length l ≡ 8 → decodeOf n t l ≡ partsOf n t (getD l 0 0) (getD l 1 0) (getD l 2 0) (getD l 3 0) (valueOf l)
+  pub decode-parts : length l ≡ 8
+      → decodeOf n t l ≡ partsOf n t (getD l 0 0) (getD l 1 0) (getD l 2 0) (getD l 3 0) (valueOf l)
   unfolding decodeOf valueOf
   decode-parts h = choose-on _ _ _ (same-mk (length l) 8 h)
 
 -- what an event was decoded from
 pub record From (n t : ℕ) (l : List ℕ) (e : Event) : Type 0 where
   pub size : length l ≡ 8
-  pub kind : isKind (getD l 0 0) ≡ true
+  pub kind : oneTo 6 (getD l 0 0) ≡ true
   pub fit : fields n t (getD l 0 0) (getD l 1 0) (getD l 2 0) (getD l 3 0) (valueOf l) ≡ true
   pub event : e ≡ eventOf (getD l 0 0) (getD l 1 0 - 1) (getD l 2 0 - 1) (getD l 3 0) (valueOf l)
 
@@ -71,21 +68,23 @@ data Outcome (n t : ℕ) (l : List ℕ) : Type 0 where
 outcome : (n t : ℕ) (l : List ℕ) → Outcome n t l
 outcome n t l = sized (is (same (length l) 8))
   where
-    fitting : length l ≡ 8 → isKind (getD l 0 0) ≡ true
+    fitting : length l ≡ 8 → oneTo 6 (getD l 0 0) ≡ true
         → Is (fields n t (getD l 0 0) (getD l 1 0) (getD l 2 0) (getD l 3 0) (valueOf l)) → Outcome n t l
     fitting h k (on p) =
         gotFrom _ (record { size = h; kind = k; fit = p; event = refl })
         (decode-parts n t l h ∙ parts-got n t (getD l 0 0) (getD l 1 0) (getD l 2 0) (getD l 3 0) (valueOf l) k p)
     fitting h k (off p) =
-        refusedBy 5 (omega arith) (decode-parts n t l h ∙ parts-unfit n t (getD l 0 0) (getD l 1 0) (getD l 2 0) (getD l 3 0) (valueOf l) k p)
+        refusedBy 5 (omega arith)
+        (decode-parts n t l h ∙ parts-unfit n t (getD l 0 0) (getD l 1 0) (getD l 2 0) (getD l 3 0) (valueOf l) k p)
 
-    known : length l ≡ 8 → Is (isKind (getD l 0 0)) → Outcome n t l
+    known : length l ≡ 8 → Is (oneTo 6 (getD l 0 0)) → Outcome n t l
     known h (on k) = fitting h k (is (fields n t (getD l 0 0) (getD l 1 0) (getD l 2 0) (getD l 3 0) (valueOf l)))
     known h (off k) =
-        refusedBy 4 (omega arith) (decode-parts n t l h ∙ parts-unknown n t (getD l 0 0) (getD l 1 0) (getD l 2 0) (getD l 3 0) (valueOf l) k)
+        refusedBy 4 (omega arith)
+        (decode-parts n t l h ∙ parts-unknown n t (getD l 0 0) (getD l 1 0) (getD l 2 0) (getD l 3 0) (valueOf l) k)
 
     sized : Is (same (length l) 8) → Outcome n t l
-    sized (on h) = known (same-on (length l) 8 h) (is (isKind (getD l 0 0)))
+    sized (on h) = known (same-on (length l) 8 h) (is (oneTo 6 (getD l 0 0)))
     sized (off h) = refusedBy 3 (omega arith) (decode-size n t l (same-not (length l) 8 h))
 
 pub decode-from : (n t : ℕ) (l : List ℕ) (e : Event) → decodeOf n t l ≡ Got e → From n t l e
@@ -120,17 +119,19 @@ inRange n t (Close a) = a < n
 inRange n t (Crash a) = a < n
 inRange n t (Suspect a b) = Pair n a b
 
-process-on : (n x : ℕ) → isProcess n x ≡ true → (0 < x) × (x ≤ n)
-unfolding isProcess
-process-on n x e =
-    (below-on 0 x (and-l (below 0 x) (below x (n + 1)) e), omega (arith, below-on x (n + 1) (and-r (below 0 x) (below x (n + 1)) e)))
+process-on : (n x : ℕ) → oneTo n x ≡ true → (0 < x) × (x ≤ n)
+process-on n x e = (one-low n x e, one-high n x e)
 
-pair-on : (n a b : ℕ) → isProcess n a ≡ true → (isProcess n b && not (same a b)) ≡ true → Pair n (a - 1) (b - 1)
+pair-on : (n a b : ℕ) → oneTo n a ≡ true → (oneTo n b && not (same a b)) ≡ true → Pair n (a - 1) (b - 1)
 pair-on n a b p q =
     let x = process-on n a p in
-    let y = process-on n b (and-l (isProcess n b) (not (same a b)) q) in
-    let d = same-not a b (not-on (same a b) (and-r (isProcess n b) (not (same a b)) q)) in
-    record { first = omega (arith, x .0, x .1); second = omega (arith, y .0, y .1); differ = λ e. d (omega (arith, x .0, y .0)) }
+    let y = process-on n b (and-l (oneTo n b) (not (same a b)) q) in
+    let d = same-not a b (not-on (same a b) (and-r (oneTo n b) (not (same a b)) q)) in
+    record {
+      first = omega (arith, x .0, x .1);
+      second = omega (arith, y .0, y .1);
+      differ = λ e. d (omega (arith, x .0, y .0));
+    }
 
 message-on : (t r : ℕ) → below r (t + 2) ≡ true → messageIn t (messageFrom r)
 unfolding messageFrom messageIn
@@ -138,15 +139,14 @@ message-on t r e = go (is (same r 0))
   where
     go : Is (same r 0) → messageIn t (messageFrom r)
     go (on z) = rw (choose-on (same r 0) Decision (Estimate r) z) tt
-    go (off z) = rw (choose-off (same r 0) Decision (Estimate r) z) (omega (arith, same-not r 0 z, below-on r (t + 2) e))
+    go (off z) =
+        rw (choose-off (same r 0) Decision (Estimate r) z) (omega (arith, same-not r 0 z, below-on r (t + 2) e))
 
 -- what holds of the kinds 1 to 6 holds of each kind
-six : (P : ℕ → Type 0) → P 1 → P 2 → P 3 → P 4 → P 5 → P 6 → (k : ℕ) → isKind k ≡ true → P k
-unfolding isKind
-six P p1 p2 p3 p4 p5 p6 k e =
-    go k (below-on 0 k (and-l (below 0 k) (below k 7) e)) (below-on k 7 (and-r (below 0 k) (below k 7) e))
+six : (P : ℕ → Type 0) → P 1 → P 2 → P 3 → P 4 → P 5 → P 6 → (k : ℕ) → oneTo 6 k ≡ true → P k
+six P p1 p2 p3 p4 p5 p6 k e = go k (one-low 6 k e) (one-high 6 k e)
   where
-    go : (k : ℕ) → 0 < k → k < 7 → P k
+    go : (k : ℕ) → 1 ≤ k → k ≤ 6 → P k
     go zero a b = absurd (omega arith)
     go (suc zero) a b = p1
     go (suc (suc zero)) a b = p2
@@ -156,27 +156,27 @@ six P p1 p2 p3 p4 p5 p6 k e =
     go (suc (suc (suc (suc (suc (suc zero)))))) a b = p6
     go (suc (suc (suc (suc (suc (suc (suc k))))))) a b = absurd (omega arith)
 
-fields-range : (n t a b r v kind : ℕ) → isKind kind ≡ true → fields n t kind a b r v ≡ true
+fields-range : (n t a b r v kind : ℕ) → oneTo 6 kind ≡ true → fields n t kind a b r v ≡ true
     → inRange n t (eventOf kind (a - 1) (b - 1) r v)
 unfolding fields fieldB fieldR usesB usesR eventOf inRange same _||_ choose
 fields-range n t a b r v =
     six (λ kind. fields n t kind a b r v ≡ true → inRange n t (eventOf kind (a - 1) (b - 1) r v))
     (alone _) (pair _) (arrival _) (alone _) (alone _) (pair _)
   where
-    alone : (y : Bool) → (isProcess n a && y) ≡ true → a - 1 < n
-    alone y e = let p = process-on n a (and-l (isProcess n a) y e) in omega (arith, p .0, p .1)
+    alone : (y : Bool) → (oneTo n a && y) ≡ true → a - 1 < n
+    alone y e = let p = process-on n a (and-l (oneTo n a) y e) in omega (arith, p .0, p .1)
 
-    pair : (y : Bool) → (isProcess n a && ((isProcess n b && not (eqb a b)) && y)) ≡ true → Pair n (a - 1) (b - 1)
+    pair : (y : Bool) → (oneTo n a && ((oneTo n b && not (eqb a b)) && y)) ≡ true → Pair n (a - 1) (b - 1)
     pair y e =
-        let q = isProcess n b && not (eqb a b) in
-        pair-on n a b (and-l (isProcess n a) (q && y) e) (and-l q y (and-r (isProcess n a) (q && y) e))
+        let q = oneTo n b && not (eqb a b) in
+        pair-on n a b (and-l (oneTo n a) (q && y) e) (and-l q y (and-r (oneTo n a) (q && y) e))
 
-    arrival : (y : Bool) → (isProcess n a && ((isProcess n b && not (eqb a b)) && (below r (t + 2) && y))) ≡ true
+    arrival : (y : Bool) → (oneTo n a && ((oneTo n b && not (eqb a b)) && (below r (t + 2) && y))) ≡ true
         → Pair n (a - 1) (b - 1) × messageIn t (messageFrom r)
     arrival y e =
-        let q = isProcess n b && not (eqb a b) in
+        let q = oneTo n b && not (eqb a b) in
         let z = below r (t + 2) in
-        (pair (z && y) e, message-on t r (and-l z y (and-r q (z && y) (and-r (isProcess n a) (q && (z && y)) e))))
+        (pair (z && y) e, message-on t r (and-l z y (and-r q (z && y) (and-r (oneTo n a) (q && (z && y)) e))))
 
 pub decode-range : (n t : ℕ) (l : List ℕ) (e : Event) → decodeOf n t l ≡ Got e → inRange n t e
 decode-range n t l e p =
@@ -214,22 +214,23 @@ four v a b c p q r h = omega arith
 digits : (v : ℕ) → v < 4294967296 → wordOf (v % 256) (v / 256 % 256) (v / 65536 % 256) (v / 16777216 % 256) ≡ v
 unfolding wordOf
 digits v h =
-    four v (v / 256) (v / 65536) (v / 16777216) refl (sym (div-div-eq-div-mul v 256 256)) (sym (div-div-eq-div-mul v 65536 256)) h
+    four v (v / 256) (v / 65536) (v / 16777216) refl (sym (div-div-eq-div-mul v 256 256))
+    (sym (div-div-eq-div-mul v 65536 256)) h
 
 -- the fields of an event in range
-process-mk : (n a : ℕ) → a < n → isProcess n (a + 1) ≡ true
-unfolding isProcess
-process-mk n a h =
-    and-mk (below 0 (a + 1)) (below (a + 1) (n + 1)) (below-mk 0 (a + 1) (omega arith)) (below-mk (a + 1) (n + 1) (omega arith))
+process-mk : (n a : ℕ) → a < n → oneTo n (a + 1) ≡ true
+process-mk n a h = one-mk n (a + 1) (omega arith) (omega arith)
 
-pair-mk : (n a b : ℕ) → Pair n a b → (isProcess n (b + 1) && not (same (a + 1) (b + 1))) ≡ true
+pair-mk : (n a b : ℕ) → Pair n a b → (oneTo n (b + 1) && not (same (a + 1) (b + 1))) ≡ true
 pair-mk n a b p =
-    and-mk (isProcess n (b + 1)) (not (same (a + 1) (b + 1))) (process-mk n b (p .second))
+    and-mk (oneTo n (b + 1)) (not (same (a + 1) (b + 1))) (process-mk n b (p .second))
     (ap not (same-off (a + 1) (b + 1) (λ e. p .differ (omega (arith, e)))))
 
 -- bytes whose parts pass each test, with a and b given from 0
-decode-bytes : (n t kind a b x r v : ℕ) → b - 1 ≡ x → v < 4294967296 → isKind kind ≡ true → a < n → fieldB n kind (a + 1) b ≡ true
-    → fieldR t kind r ≡ true → fieldValue kind v ≡ true → decodeOf n t (bytesOf kind (a + 1) b r v) ≡ Got (eventOf kind a x r v)
+decode-bytes : (n t kind a b x r v : ℕ) → b - 1 ≡ x → v < 4294967296 → oneTo 6 kind ≡ true → a < n
+    → fieldB n kind (a + 1) b ≡ true
+    → fieldR t kind r ≡ true → fieldValue kind v ≡ true
+    → decodeOf n t (bytesOf kind (a + 1) b r v) ≡ Got (eventOf kind a x r v)
 unfolding bytesOf valueOf fields
 decode-bytes n t kind a b x r v e h k l p q w =
     decode-parts n t (bytesOf kind (a + 1) b r v) refl ∙ ap (partsOf n t kind (a + 1) b r) (digits v h)
@@ -238,21 +239,30 @@ decode-bytes n t kind a b x r v e h k l p q w =
 
 -- every event in range is decoded from its bytes
 pub decode-encode : (n t : ℕ) (e : Event) → inRange n t e → valueFits e → decodeOf n t (encodeOf e) ≡ Got e
-unfolding inRange valueFits encodeOf fieldB fieldR fieldValue usesB usesR usesValue eventOf messageFrom messageIn same below choose _||_
-decode-encode n t (Start a v) h f = decode-bytes n t 1 a 0 0 0 v refl f (kind-on 1 (lit< tt) (lit< tt)) h refl refl refl
+unfolding inRange valueFits encodeOf fieldB fieldR fieldValue usesB usesR usesValue eventOf messageFrom messageIn same
+    below choose _||_
+decode-encode n t (Start a v) h f =
+    decode-bytes n t 1 a 0 0 0 v refl f (one-mk 6 1 (omega arith) (omega arith)) h refl refl refl
 decode-encode n t (Send a b) h f =
-    decode-bytes n t 2 a (b + 1) b 0 0 (omega arith) (lit< tt) (kind-on 2 (lit< tt) (lit< tt)) (h .first) (pair-mk n a b h) refl refl
+    decode-bytes n t 2 a (b + 1) b 0 0 (omega arith) (lit< tt) (one-mk 6 2 (omega arith) (omega arith)) (h .first)
+    (pair-mk n a b h) refl refl
 decode-encode n t (Arrive a b (Estimate r)) h f =
-    decode-bytes n t 3 a (b + 1) b r 0 (omega arith) (lit< tt) (kind-on 3 (lit< tt) (lit< tt)) (h .0 .first) (pair-mk n a b (h .0))
+    decode-bytes n t 3 a (b + 1) b r 0 (omega arith) (lit< tt) (one-mk 6 3 (omega arith) (omega arith)) (h .0 .first)
+    (pair-mk n a b (h .0))
     (below-mk r (t + 2) (omega (arith, h .1 .1))) refl
-    ∙ ap (λ m. Got (Arrive a b m)) (choose-off (same r 0) Decision (Estimate r) (same-off r 0 (λ e. omega (arith, h .1 .0))))
+    ∙ ap (λ m. Got (Arrive a b m))
+    (choose-off (same r 0) Decision (Estimate r) (same-off r 0 (λ e. omega (arith, h .1 .0))))
 decode-encode n t (Arrive a b Decision) h f =
-    decode-bytes n t 3 a (b + 1) b 0 0 (omega arith) (lit< tt) (kind-on 3 (lit< tt) (lit< tt)) (h .0 .first) (pair-mk n a b (h .0))
+    decode-bytes n t 3 a (b + 1) b 0 0 (omega arith) (lit< tt) (one-mk 6 3 (omega arith) (omega arith)) (h .0 .first)
+    (pair-mk n a b (h .0))
     (below-mk 0 (t + 2) (omega arith)) refl
-decode-encode n t (Close a) h f = decode-bytes n t 4 a 0 0 0 0 refl (lit< tt) (kind-on 4 (lit< tt) (lit< tt)) h refl refl refl
-decode-encode n t (Crash a) h f = decode-bytes n t 5 a 0 0 0 0 refl (lit< tt) (kind-on 5 (lit< tt) (lit< tt)) h refl refl refl
+decode-encode n t (Close a) h f =
+    decode-bytes n t 4 a 0 0 0 0 refl (lit< tt) (one-mk 6 4 (omega arith) (omega arith)) h refl refl refl
+decode-encode n t (Crash a) h f =
+    decode-bytes n t 5 a 0 0 0 0 refl (lit< tt) (one-mk 6 5 (omega arith) (omega arith)) h refl refl refl
 decode-encode n t (Suspect a b) h f =
-    decode-bytes n t 6 a (b + 1) b 0 0 (omega arith) (lit< tt) (kind-on 6 (lit< tt) (lit< tt)) (h .first) (pair-mk n a b h) refl refl
+    decode-bytes n t 6 a (b + 1) b 0 0 (omega arith) (lit< tt) (one-mk 6 6 (omega arith) (omega arith)) (h .first)
+    (pair-mk n a b h) refl refl
 
 -- they are 8, and each of them is a byte
 pub encode-size : (e : Event) → length (encodeOf e) ≡ 8
@@ -265,7 +275,8 @@ encode-size (Close a) = refl
 encode-size (Crash a) = refl
 encode-size (Suspect a b) = refl
 
-bytes-low : (kind a b r v : ℕ) → kind < 256 → a < 256 → b < 256 → r < 256 → (i : ℕ) → getD (bytesOf kind a b r v) i 0 < 256
+bytes-low : (kind a b r v : ℕ) → kind < 256 → a < 256 → b < 256 → r < 256 → (i : ℕ)
+    → getD (bytesOf kind a b r v) i 0 < 256
 unfolding bytesOf
 bytes-low kind a b r v hk ha hb hr zero = hk
 bytes-low kind a b r v hk ha hb hr (suc zero) = ha
@@ -281,8 +292,10 @@ pub encode-byte : (n t : ℕ) → n ≤ 16 → t < n → (e : Event) → inRange
 unfolding inRange encodeOf messageIn
 encode-byte n t hn ht (Start a v) h = bytes-low 1 (a + 1) 0 0 v (lit< tt) (omega arith) (lit< tt) (lit< tt)
 encode-byte n t hn ht (Send a b) h = bytes-low 2 (a + 1) (b + 1) 0 0 (lit< tt) (omega arith) (omega arith) (lit< tt)
-encode-byte n t hn ht (Arrive a b (Estimate r)) h = bytes-low 3 (a + 1) (b + 1) r 0 (lit< tt) (omega arith) (omega arith) (omega arith)
-encode-byte n t hn ht (Arrive a b Decision) h = bytes-low 3 (a + 1) (b + 1) 0 0 (lit< tt) (omega arith) (omega arith) (lit< tt)
+encode-byte n t hn ht (Arrive a b (Estimate r)) h =
+    bytes-low 3 (a + 1) (b + 1) r 0 (lit< tt) (omega arith) (omega arith) (omega arith)
+encode-byte n t hn ht (Arrive a b Decision) h =
+    bytes-low 3 (a + 1) (b + 1) 0 0 (lit< tt) (omega arith) (omega arith) (lit< tt)
 encode-byte n t hn ht (Close a) h = bytes-low 4 (a + 1) 0 0 0 (lit< tt) (omega arith) (lit< tt) (lit< tt)
 encode-byte n t hn ht (Crash a) h = bytes-low 5 (a + 1) 0 0 0 (lit< tt) (omega arith) (lit< tt) (lit< tt)
 encode-byte n t hn ht (Suspect a b) h = bytes-low 6 (a + 1) (b + 1) 0 0 (lit< tt) (omega arith) (omega arith) (lit< tt)

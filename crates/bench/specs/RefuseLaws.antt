@@ -1,4 +1,5 @@
--- Laws of refusals: which check gives each number, that a refused record changes nothing, and what an accepted one does.
+-- Laws of refusals: which check gives each number, that a refused record changes nothing,
+-- and what an accepted one does.
 -- A check gives its number or what is checked after it, so the numbers are taken apart one check at a time.
 use mathlib.Core.Path.{_≡_, refl, sym, ap, _∙_}
 use mathlib.Core.Logic.{_≢_}
@@ -7,7 +8,9 @@ use mathlib.Core.Bool.{Bool, true, false, not}
 use Prim.Native.Nat.{ℕ, _<_}
 use native.Mathlib.Omega.{arith}
 use lib.ListN.{length}
-use Rattle.sets.specs.Truth.{Is, on, off, is, choose-on, choose-off, not-on, same-mk, same-off}
+use Rattle.sets.specs.Set.{sizeOf}
+use Rattle.sets.specs.TruthLaws.{or-mk-l, or-off-l, check-on, check-off, check-zero, Is, on}
+use Rattle.sets.specs.TruthLaws.{off, is, choose-on, choose-off, not-on, same-mk, same-off}
 use Rattle.bench.specs.declared.Bench.{Bench}
 use Rattle.bench.specs.declared.Refusal.{Refusal}
 use Rattle.bench.specs.declared.Event.{Event}
@@ -17,48 +20,41 @@ use Rattle.bench.specs.State.{crashedAt}
 use Rattle.bench.specs.Sound.{soundOf}
 use Rattle.bench.specs.Record.{decodeOf}
 use Rattle.bench.specs.RecordLaws.{inRange, decode-from, decode-refused, decode-range}
-use Rattle.bench.specs.Refuse.{check, actor, possible, ready, allowed, refuses, refusesDecoded, refusal}
+use Rattle.sets.specs.Truth.{check, below}
+use Rattle.bench.specs.Refuse.{actor, isCrash, passes7, passes8, passes9, refuses, refusesDecoded, refusal}
 use Rattle.bench.specs.Effect.{effect, effectDecoded, effectOf}
-use Rattle.bench.specs.Calls.{after}
-
--- ---- one check
-pub check-on : (b : Bool) (k rest : ℕ) → b ≡ true → check b k rest ≡ rest
-unfolding check
-check-on b k rest e = choose-on b rest k e
-
-pub check-off : (b : Bool) (k rest : ℕ) → b ≡ false → check b k rest ≡ k
-unfolding check
-check-off b k rest e = choose-off b rest k e
-
--- a check that gives 0 has passed, and so has what is checked after it
-pub check-zero : (b : Bool) (k rest : ℕ) → 0 < k → check b k rest ≡ 0 → (b ≡ true) × (rest ≡ 0)
-check-zero b k rest h e = go (is b)
-  where
-    go : Is b → (b ≡ true) × (rest ≡ 0)
-    go (on t) = (t, sym (check-on b k rest t) ∙ e)
-    go (off f) = absurd (omega (arith, check-off b k rest f))
+use Rattle.bench.specs.Calls.{afterRecord}
 
 -- ---- an event is let through when its actor runs, it is possible, ready and allowed
 pub record Passes (e : Event) (s : Bench) : Type 0 where
   pub running : crashedAt s (actor e) ≡ false
-  pub is-possible : possible e s ≡ true
-  pub is-ready : ready e s ≡ true
-  pub is-allowed : allowed e s ≡ true
+  pub pass7 : passes7 e s ≡ true
+  pub pass8 : passes8 e s ≡ true
+  pub pass9 : passes9 e s ≡ true
+
+-- check 9 looks at a crash alone
+pub ninth-other : (e : Event) (s : Bench) → isCrash e ≡ false → passes9 e s ≡ true
+unfolding passes9
+ninth-other e s c = or-mk-l _ _ (ap not c)
+
+pub ninth-crash : (e : Event) (s : Bench) → isCrash e ≡ true → passes9 e s ≡ below (sizeOf (s .crashed)) (s .t)
+unfolding passes9
+ninth-crash e s c = or-off-l _ _ (ap not c)
 
 module _ (e : Event) (s : Bench) where
   pub refuses-crashed : crashedAt s (actor e) ≡ true → refuses e s ≡ 6
   unfolding refuses
   refuses-crashed c = check-off _ _ _ (ap not c)
 
-  pub refuses-impossible : crashedAt s (actor e) ≡ false → possible e s ≡ false → refuses e s ≡ 7
+  pub refuses-impossible : crashedAt s (actor e) ≡ false → passes7 e s ≡ false → refuses e s ≡ 7
   unfolding refuses
   refuses-impossible c p = check-on _ _ _ (ap not c) ∙ check-off _ _ _ p
 
-  pub refuses-unready : crashedAt s (actor e) ≡ false → possible e s ≡ true → ready e s ≡ false → refuses e s ≡ 8
+  pub refuses-unready : crashedAt s (actor e) ≡ false → passes7 e s ≡ true → passes8 e s ≡ false → refuses e s ≡ 8
   unfolding refuses
   refuses-unready c p r = check-on _ _ _ (ap not c) ∙ check-on _ _ _ p ∙ check-off _ _ _ r
 
-  pub refuses-unallowed : crashedAt s (actor e) ≡ false → possible e s ≡ true → ready e s ≡ true → allowed e s ≡ false
+  pub refuses-unallowed : crashedAt s (actor e) ≡ false → passes7 e s ≡ true → passes8 e s ≡ true → passes9 e s ≡ false
       → refuses e s ≡ 9
   unfolding refuses
   refuses-unallowed c p r a = check-on _ _ _ (ap not c) ∙ check-on _ _ _ p ∙ check-on _ _ _ r ∙ check-off _ _ _ a
@@ -66,8 +62,8 @@ module _ (e : Event) (s : Bench) where
   pub passes-mk : Passes e s → refuses e s ≡ 0
   unfolding refuses
   passes-mk w =
-      check-on _ _ _ (ap not (w .running)) ∙ check-on _ _ _ (w .is-possible) ∙ check-on _ _ _ (w .is-ready)
-      ∙ check-on _ _ _ (w .is-allowed)
+      check-on _ _ _ (ap not (w .running)) ∙ check-on _ _ _ (w .pass7) ∙ check-on _ _ _ (w .pass8)
+      ∙ check-on _ _ _ (w .pass9)
 
   pub passes-on : refuses e s ≡ 0 → Passes e s
   unfolding refuses
@@ -76,7 +72,7 @@ module _ (e : Event) (s : Bench) where
       let p = check-zero _ 7 _ (omega arith) (c .1) in
       let r = check-zero _ 8 _ (omega arith) (p .1) in
       let a = check-zero _ 9 _ (omega arith) (r .1) in
-      record { running = not-on _ (c .0); is-possible = p .0; is-ready = r .0; is-allowed = a .0 }
+      record { running = not-on _ (c .0); pass7 = p .0; pass8 = r .0; pass9 = a .0 }
 
 -- ---- any bytes: 2 of a damaged bench, else the decoder's number, else the event's
 module _ (s : Bench) (l : List ℕ) where
@@ -84,7 +80,8 @@ module _ (s : Bench) (l : List ℕ) where
   unfolding refusal
   refusal-damaged d = check-off _ _ _ d
 
-  pub refusal-unread : soundOf s ≡ true → (r : Refusal) → decodeOf (s .n) (s .t) l ≡ Refused r → refusal s l ≡ r .number
+  pub refusal-unread : soundOf s ≡ true → (r : Refusal) → decodeOf (s .n) (s .t) l ≡ Refused r
+      → refusal s l ≡ r .number
   unfolding refusal refusesDecoded
   refusal-unread h r d = check-on _ _ _ h ∙ rw d
 
@@ -93,15 +90,16 @@ module _ (s : Bench) (l : List ℕ) where
   refusal-event h e d = check-on _ _ _ h ∙ rw d
 
   -- ---- a refused record leaves the bench as it is
-  pub refused-keeps : refusal s l ≢ 0 → after s l ≡ s
-  unfolding after
+  pub refused-keeps : refusal s l ≢ 0 → afterRecord s l ≡ s
+  unfolding afterRecord
   refused-keeps h = choose-off _ _ _ (same-off _ _ h)
 
-  pub accepted-effect : refusal s l ≡ 0 → after s l ≡ effectOf s l
-  unfolding after
+  pub accepted-effect : refusal s l ≡ 0 → afterRecord s l ≡ effectOf s l
+  unfolding afterRecord
   accepted-effect h = choose-on _ _ _ (same-mk _ _ h)
 
--- ---- an accepted record: the bench is sound, the bytes are those of an event in range that is let through, and its effect is taken
+-- ---- an accepted record: the bench is sound, the bytes are those of an event in range that is let
+-- through, and its effect is taken
 pub record Accepts (s : Bench) (l : List ℕ) : Type 0 where
   pub sound : soundOf s ≡ true
   pub event : Event
@@ -109,7 +107,7 @@ pub record Accepts (s : Bench) (l : List ℕ) : Type 0 where
   pub range : inRange (s .n) (s .t) event
   pub passes : Passes event s
   pub size : length l ≡ 8
-  pub effects : after s l ≡ effect event s
+  pub effects : afterRecord s l ≡ effect event s
 
 pub accepted : (s : Bench) (l : List ℕ) → refusal s l ≡ 0 → Accepts s l
 unfolding refusal refusesDecoded effectOf effectDecoded
@@ -132,6 +130,7 @@ accepted s l z = go (decodeOf (s .n) (s .t) l) refl
     go (Refused r) p = absurd (decode-refused (s .n) (s .t) l r p (sym (refusal-unread s l (first .0) r p) ∙ z))
 
 -- and the other way
-pub accepted-by : (s : Bench) (l : List ℕ) (e : Event) → soundOf s ≡ true → decodeOf (s .n) (s .t) l ≡ Got e → Passes e s
+pub accepted-by : (s : Bench) (l : List ℕ) (e : Event) → soundOf s ≡ true → decodeOf (s .n) (s .t) l ≡ Got e
+    → Passes e s
     → refusal s l ≡ 0
 accepted-by s l e h d w = refusal-event s l h e d ∙ passes-mk e s w

@@ -1,4 +1,5 @@
--- Laws of run: the four turns of its loop, and that it is the fold of single records: the bench after exactly the accepted ones, one by one.
+-- Laws of run: the four turns of its loop, and that it is the fold of single records:
+-- the bench after exactly the accepted ones, one by one.
 -- By the budget: each turn takes one accepted record, which is 8 bytes, or gives the cause.
 use mathlib.Core.Path.{_≡_, refl, sym, ap, _∙_}
 use mathlib.Core.Logic.{_≢_, ⊎-elim}
@@ -9,14 +10,16 @@ use native.Mathlib.Nat.{add-zero}
 use native.Mathlib.Omega.{arith}
 use lib.ListN.{length, take, drop, length-take, length-drop}
 use lib.Seq.{drop-drop}
-use Rattle.sets.specs.Truth.{same, choose, choose-on, choose-off, same-mk, same-off, eq-or}
+use Rattle.sets.specs.Truth.{same, choose}
+use Rattle.sets.specs.TruthLaws.{choose-on, choose-off, same-mk, same-off, eq-or}
 use Rattle.bench.specs.declared.Bench.{Bench}
 use Rattle.bench.specs.declared.Cause.{Cause}
 use Rattle.bench.specs.declared.Cause.the-variants.{Empty, Spent, Refused}
 use Rattle.bench.specs.Sound.{soundOf}
 use Rattle.bench.specs.Refuse.{refusal}
 use Rattle.bench.specs.Effect.{effectOf}
-use Rattle.bench.specs.Calls.{refused, after, endedOf, runFrom, runOf}
+use Rattle.bench.specs.Calls.{refused, afterRecord, endedOf, runFrom, runOf}
+use Rattle.bench.specs.OneByOne.{restOf, recordAt, steps}
 use Rattle.bench.specs.RefuseLaws.{accepted-effect, accepted}
 use Rattle.bench.specs.SoundLaws.{sound-step}
 
@@ -27,7 +30,8 @@ module _ (l : List ℕ) (s : Bench) (accepted taken : ℕ) where
   run-empty zero e = ap (λ c. endedOf s accepted c taken) (choose-on _ _ _ (same-mk _ _ e))
   run-empty (suc budget) e = choose-on _ _ _ (same-mk _ _ e)
 
-  pub run-spent : (budget : ℕ) → length l ≢ 0 → budget ≡ 0 → runFrom budget l s accepted taken ≡ endedOf s accepted Spent taken
+  pub run-spent : (budget : ℕ) → length l ≢ 0 → budget ≡ 0
+      → runFrom budget l s accepted taken ≡ endedOf s accepted Spent taken
   unfolding runFrom
   run-spent zero h z = ap (λ c. endedOf s accepted c taken) (choose-off _ _ _ (same-off _ _ h))
   run-spent (suc budget) h z = absurd (omega arith)
@@ -39,7 +43,8 @@ module _ (l : List ℕ) (s : Bench) (accepted taken : ℕ) where
   run-refused (suc budget) h b r = choose-off _ _ _ (same-off _ _ h) ∙ choose-off _ _ _ (same-off _ _ r)
 
   pub run-accepted : (budget : ℕ) → length l ≢ 0 → budget ≢ 0 → refusal s (take 8 l) ≡ 0
-      → runFrom budget l s accepted taken ≡ runFrom (budget - 1) (drop 8 l) (effectOf s (take 8 l)) (accepted + 1) (taken + 8)
+      → runFrom budget l s accepted taken
+      ≡ runFrom (budget - 1) (drop 8 l) (effectOf s (take 8 l)) (accepted + 1) (taken + 8)
   unfolding runFrom
   run-accepted zero h b r = absurd (b refl)
   run-accepted (suc budget) h b r =
@@ -47,7 +52,8 @@ module _ (l : List ℕ) (s : Bench) (accepted taken : ℕ) where
       rw e (choose-off _ _ _ (same-off _ _ h) ∙ choose-on _ _ _ (same-mk _ _ r))
 
 -- ---- a damaged bench is refused first; a sound one is run from nothing taken
-pub run-damaged : (budget : ℕ) (l : List ℕ) (s : Bench) → soundOf s ≡ false → runOf budget l s ≡ endedOf s 0 (Refused (refused 2)) 0
+pub run-damaged : (budget : ℕ) (l : List ℕ) (s : Bench) → soundOf s ≡ false
+    → runOf budget l s ≡ endedOf s 0 (Refused (refused 2)) 0
 unfolding runOf
 run-damaged budget l s d = choose-off _ _ _ d
 
@@ -56,18 +62,6 @@ unfolding runOf
 run-sound budget l s h = choose-on _ _ _ h
 
 -- ---- the fold of single records
--- the bytes left after k records, and the record at their head
-unfoldable pub restOf : ℕ → List ℕ → List ℕ
-restOf k l = drop (8 * k) l
-
-unfoldable pub recordAt : ℕ → List ℕ → List ℕ
-recordAt k l = take 8 (restOf k l)
-
--- the bench after k records, one by one
-unfoldable pub steps : ℕ → Bench → List ℕ → Bench
-steps zero s l = s
-steps (suc k) s l = steps k (after s (take 8 l)) (drop 8 l)
-
 -- why a run ended, with the budget left, the bytes left and the bench
 unfoldable pub Why : ℕ → List ℕ → Bench → Cause → Type 0
 Why left rest s Empty = length rest ≡ 0
@@ -84,7 +78,8 @@ unfolding Why causeOf
 why-is left rest s Empty w = sym (choose-on _ _ _ (same-mk _ _ w))
 why-is left rest s Spent w = sym (choose-off _ _ _ (same-off _ _ (w .0)) ∙ choose-on _ _ _ (same-mk _ _ (w .1)))
 why-is left rest s (Refused r) w =
-    ap (λ k. Refused (refused k)) (sym (w .2)) ∙ sym (choose-off _ _ _ (same-off _ _ (w .0)) ∙ choose-off _ _ _ (same-off _ _ (w .1)))
+    ap (λ k. Refused (refused k)) (sym (w .2))
+    ∙ sym (choose-off _ _ _ (same-off _ _ (w .0)) ∙ choose-off _ _ _ (same-off _ _ (w .1)))
 
 rest-next : (k : ℕ) (l : List ℕ) → restOf k (drop 8 l) ≡ restOf (suc k) l
 unfolding restOf
@@ -101,7 +96,8 @@ pub record Runs (budget : ℕ) (l : List ℕ) (s : Bench) (accepted taken : ℕ)
   pub why : Why (budget - k) (restOf k l) (steps k s l) cause
 
 -- it stops at once, with a cause
-stops : (budget : ℕ) (l : List ℕ) (s : Bench) (a t : ℕ) (c : Cause) → runFrom budget l s a t ≡ endedOf s a c t → Why budget l s c
+stops : (budget : ℕ) (l : List ℕ) (s : Bench) (a t : ℕ) (c : Cause) → runFrom budget l s a t ≡ endedOf s a c t
+    → Why budget l s c
     → Runs budget l s a t
 unfolding steps restOf
 stops budget l s a t c e w =
@@ -117,7 +113,7 @@ stops budget l s a t c e w =
 
 -- it takes one record more
 goes : (budget : ℕ) (l : List ℕ) (s : Bench) (a t : ℕ) → length l ≢ 0 → refusal s (take 8 l) ≡ 0
-    → Runs budget (drop 8 l) (after s (take 8 l)) (a + 1) (t + 8) → Runs (suc budget) l s a t
+    → Runs budget (drop 8 l) (afterRecord s (take 8 l)) (a + 1) (t + 8) → Runs (suc budget) l s a t
 unfolding steps recordAt restOf
 goes budget l s a t h z w =
     record {
@@ -127,7 +123,8 @@ goes budget l s a t h z w =
           let p : suc budget - 1 ≡ budget = omega arith in
           let q : a + suc (w .k) ≡ a + 1 + w .k = omega arith in
           let r : t + 8 * suc (w .k) ≡ t + 8 + 8 * w .k = omega arith in
-          run-accepted l s a t (suc budget) h (omega arith) z ∙ rw (p, ← accepted-effect s (take 8 l) z, q, r) (w .gives);
+          run-accepted l s a t (suc budget) h (omega arith) z
+          ∙ rw (p, ← accepted-effect s (take 8 l) z, q, r) (w .gives);
       within-budget = omega (arith, w .within-budget);
       within-bytes = omega (arith, w .within-bytes, length-drop 8 l, length-take 8 l, accepted s (take 8 l) z .size);
       each-accepted = each;
@@ -148,12 +145,13 @@ runs zero l s a t =
 runs (suc budget) l s a t =
     ⊎-elim (λ e. stops (suc budget) l s a t Empty (run-empty l s a t (suc budget) e) e)
     (λ h.
-    ⊎-elim (λ z. goes budget l s a t h z (runs budget (drop 8 l) (after s (take 8 l)) (a + 1) (t + 8)))
-    (λ r. stops (suc budget) l s a t (Refused (refused (refusal s (take 8 l)))) (run-refused l s a t (suc budget) h (omega arith) r) (h, omega arith, refl, r))
+    ⊎-elim (λ z. goes budget l s a t h z (runs budget (drop 8 l) (afterRecord s (take 8 l)) (a + 1) (t + 8)))
+    (λ r. stops (suc budget) l s a t (Refused (refused (refusal s (take 8 l))))
+    (run-refused l s a t (suc budget) h (omega arith) r) (h, omega arith, refl, r))
     (eq-or (refusal s (take 8 l)) 0)) (eq-or (length l) 0)
 
 -- a run of a sound bench leaves it sound
 pub sound-steps : (k : ℕ) (s : Bench) (l : List ℕ) → soundOf s ≡ true → soundOf (steps k s l) ≡ true
 unfolding steps
 sound-steps zero s l h = h
-sound-steps (suc k) s l h = sound-steps k (after s (take 8 l)) (drop 8 l) (sound-step s (take 8 l) h)
+sound-steps (suc k) s l h = sound-steps k (afterRecord s (take 8 l)) (drop 8 l) (sound-step s (take 8 l) h)

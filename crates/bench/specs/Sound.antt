@@ -1,25 +1,18 @@
 -- Refusals 1 and 2 of document 01: sizes that open, and a state that is not damaged.
-use mathlib.Core.List.{List, [], _∷_}
-use mathlib.Core.Bool.{Bool, true, false}
-use Prim.Native.Nat.{ℕ, _+_, _^_}
-use Rattle.sets.specs.Truth.{_&&_, below}
+use mathlib.Core.Bool.{Bool}
+use Prim.Native.Nat.{ℕ, _+_}
+use Rattle.sets.specs.Lists.{everyIn}
+use Rattle.sets.specs.Set.{within}
+use Rattle.sets.specs.Truth.{_&&_, below, oneTo}
 use Rattle.global_data.specs.declared.GlobalData.{GlobalData}
 use Rattle.process.specs.declared.Process.{Process}
 use Rattle.bench.specs.declared.Bench.{Bench}
 
 -- n is 1 to 16, and t below n
 unfoldable pub opens : ℕ → ℕ → Bool
-opens n t = below 0 n && (below n 17 && below t n)
+opens n t = oneTo 16 n && below t n
 
--- each of a list passes
-unfoldable pub every : {A : Type 0} → (A → Bool) → List A → Bool
-every p [] = true
-every p (x ∷ l) = p x && every p l
-
--- no member or present mark at or past n
-unfoldable pub within : ℕ → ℕ → Bool
-within n m = below m (2 ^ n)
-
+-- no present mark at or past n
 unfoldable pub soundData : ℕ → GlobalData → Bool
 soundData n g = within n (g .present)
 
@@ -30,12 +23,12 @@ soundProcess n t p =
     && (within n (p .previous)
     && (within n (p .current)
     && (within n (p .suspected)
-    && (within n (p .outbox) && (soundData n (p .estimate) && every (within n) (p .received))))))
+    && (within n (p .outbox) && (soundData n (p .estimate) && everyIn (within n) (p .received))))))
 
 -- every process, row and set counts, used or not
 unfoldable pub soundOf : Bench → Bool
 soundOf b =
     opens (b .n) (b .t)
     && (within (b .n) (b .crashed)
-    && (every (soundProcess (b .n) (b .t)) (b .processes)
-    && (every (soundData (b .n)) (b .sent) && every (within (b .n)) (b .in_transit))))
+    && (everyIn (soundProcess (b .n) (b .t)) (b .processes)
+    && (everyIn (soundData (b .n)) (b .sent) && everyIn (within (b .n)) (b .in_transit))))

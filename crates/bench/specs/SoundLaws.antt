@@ -1,5 +1,6 @@
 -- Laws of a sound bench: soundness as bounds, both ways, and that every record keeps it.
--- A list is sound when each of its entries is, and a stored entry is: so each step is shown for the one process, row or set that it stores.
+-- A list is sound when each of its entries is, and a stored entry is: so each step is shown for the one process,
+-- row or set that it stores.
 use mathlib.Core.Path.{_≡_, refl}
 use mathlib.Core.Logic.{⊎-elim}
 use mathlib.Core.List.{List, [], _∷_}
@@ -9,36 +10,43 @@ use native.Mathlib.Omega.{arith}
 use lib.ListN.{getD, set, replicate}
 use lib.Pow.{pow-pos}
 use Rattle.sets.specs.Laws.{insert-lt, remove-lt}
-use Rattle.sets.specs.Truth.{_&&_, Is, on, off, is, clash, choose-on, choose-off, and-l, and-r, and-mk, and-on-r, below-on, below-mk, eq-or}
+use Rattle.sets.specs.Truth.{_&&_, below, oneTo}
+use Rattle.sets.specs.TruthLaws.{Is, on, off, is, clash, choose-on, choose-off, and-l, and-r, and-mk}
+use Rattle.sets.specs.TruthLaws.{and-on-r, below-on, below-mk, one-low, one-high, one-mk, eq-or}
 use Rattle.global_data.specs.declared.GlobalData.{GlobalData}
 use Rattle.global_data.specs.GlobalData.{noData, nothingOf}
 use Rattle.process.specs.declared.Process.{Process}
 use Rattle.process.specs.Steps.{hasDecided, noProcess, idleOf, receiveOf, adoptOf, sendOf}
-use Rattle.process.specs.Laws.{Within, within-idle, within-start, within-send, within-receive, within-adopt, within-close, within-suspect}
+use Rattle.process.specs.Laws.{Within, within-idle, within-start, within-send}
+use Rattle.process.specs.Laws.{within-receive, within-adopt, within-close, within-suspect}
 use Rattle.bench.specs.declared.Bench.{Bench}
 use Rattle.bench.specs.declared.Message.the-variants.{Estimate, Decision}
 use Rattle.bench.specs.declared.Event.{Event}
 use Rattle.bench.specs.declared.Event.the-variants.{Start, Send, Arrive, Close, Crash, Suspect}
-use Rattle.bench.specs.State.{processAt, sentAt, transitAt, withProcess, withSent, withTransit, withCrashed, openedOf}
-use Rattle.bench.specs.Sound.{opens, every, within, soundData, soundProcess, soundOf}
+use Rattle.bench.specs.State.{processAt, sentAt, transitAt, withProcess}
+use Rattle.bench.specs.State.{withSent, withTransit, withCrashed, openedOf}
+use Rattle.bench.specs.Sound.{opens, soundData, soundProcess, soundOf}
+use Rattle.sets.specs.Lists.{everyIn}
+use Rattle.sets.specs.Set.{within}
 use Rattle.bench.specs.RecordLaws.{inRange}
 use Rattle.bench.specs.Refuse.{refusal}
 use Rattle.bench.specs.RefuseLaws.{refused-keeps, accepted}
 use Rattle.bench.specs.Effect.{opensRound, rowsAt, sends, arrives, closesAs, effect}
-use Rattle.bench.specs.Calls.{after}
+use Rattle.bench.specs.Calls.{afterRecord}
 
 -- ---- lists: what holds of each entry, and of what stands outside
 module _ {A : Type 0} where
-  pub every-on : (p : A → Bool) (d : A) (l : List A) → p d ≡ true → every p l ≡ true → (i : ℕ) → p (getD l i d) ≡ true
-  unfolding every
+  pub every-on : (p : A → Bool) (d : A) (l : List A) → p d ≡ true → everyIn p l ≡ true → (i : ℕ)
+      → p (getD l i d) ≡ true
+  unfolding everyIn
   every-on p d [] h e i = h
-  every-on p d (x ∷ l) h e zero = and-l (p x) (every p l) e
-  every-on p d (x ∷ l) h e (suc i) = every-on p d l h (and-r (p x) (every p l) e) i
+  every-on p d (x ∷ l) h e zero = and-l (p x) (everyIn p l) e
+  every-on p d (x ∷ l) h e (suc i) = every-on p d l h (and-r (p x) (everyIn p l) e) i
 
-  pub every-mk : (p : A → Bool) (d : A) (l : List A) → ((i : ℕ) → p (getD l i d) ≡ true) → every p l ≡ true
-  unfolding every
+  pub every-mk : (p : A → Bool) (d : A) (l : List A) → ((i : ℕ) → p (getD l i d) ≡ true) → everyIn p l ≡ true
+  unfolding everyIn
   every-mk p d [] h = refl
-  every-mk p d (x ∷ l) h = and-mk (p x) (every p l) (h zero) (every-mk p d l (λ i. h (suc i)))
+  every-mk p d (x ∷ l) h = and-mk (p x) (everyIn p l) (h zero) (every-mk p d l (λ i. h (suc i)))
 
   -- each entry after one is stored
   pub each-set : (P : A → Type 0) (d : A) (l : List A) (j : ℕ) (v : A) → ((i : ℕ) → P (getD l i d)) → P v
@@ -70,14 +78,33 @@ swap-on true true false d e p = clash false p refl
 swap-on true false c d e p = clash false p refl
 swap-on false b c d e p = clash false p refl
 
+-- ---- sizes that open
+module _ (n t : ℕ) where
+  pub open-some : opens n t ≡ true → 0 < n
+  unfolding opens
+  open-some e = one-low 16 n (and-l (oneTo 16 n) (below t n) e)
+
+  pub open-few : opens n t ≡ true → n < 17
+  unfolding opens
+  open-few e = omega (arith, one-high 16 n (and-l (oneTo 16 n) (below t n) e))
+
+  pub open-limit : opens n t ≡ true → t < n
+  unfolding opens
+  open-limit e = below-on t n (and-r (oneTo 16 n) (below t n) e)
+
+  pub open-mk : 0 < n → n < 17 → t < n → opens n t ≡ true
+  unfolding opens
+  open-mk l h m = and-mk (oneTo 16 n) (below t n) (one-mk 16 n l (omega arith)) (below-mk t n m)
+
 -- ---- soundness in two parts: the rows of `sent`, and all else
 unfoldable pub soundParts : ℕ → ℕ → ℕ → List Process → List ℕ → Bool
 soundParts n t crashed processes words =
-    opens n t && (within n crashed && (every (soundProcess n t) processes && every (within n) words))
+    opens n t && (within n crashed && (everyIn (soundProcess n t) processes && everyIn (within n) words))
 
-pub parts-small : (n t crashed : ℕ) (processes : List Process) (words : List ℕ) → soundParts n t crashed processes words ≡ true → n ≤ 16
-unfolding soundParts opens
-parts-small n t crashed processes words e = omega (arith, below-on n 17 (and-l _ _ (and-r _ _ (and-l _ _ e))))
+pub parts-small : (n t crashed : ℕ) (processes : List Process) (words : List ℕ)
+    → soundParts n t crashed processes words ≡ true → n ≤ 16
+unfolding soundParts
+parts-small n t crashed processes words e = omega (arith, open-few n t (and-l _ _ e))
 
 module _ (b : Bench) where
   abbrev parts : Bool
@@ -87,7 +114,7 @@ module _ (b : Bench) where
   unfolding soundParts soundOf
   sound-off e = swap-off _ _ _ _ _ e
 
-  pub sound-rows : parts ≡ true → soundOf b ≡ every (soundData (b .n)) (b .sent)
+  pub sound-rows : parts ≡ true → soundOf b ≡ everyIn (soundData (b .n)) (b .sent)
   unfolding soundParts soundOf
   sound-rows e = swap-on _ _ _ _ _ e
 
@@ -128,7 +155,8 @@ process-on n t p e =
       suspected = within-on _ _ (and-l _ _ e3);
       outbox = within-on _ _ (and-l _ _ e4);
       estimate = within-on _ _ (and-l _ _ e5);
-      received = λ i. within-on _ _ (every-on (within n) 0 (p .received) (within-mk n 0 (none-low n)) (and-r _ _ e5) i);
+      received =
+          λ i. within-on _ _ (every-on (within n) 0 (p .received) (within-mk n 0 (none-low n)) (and-r _ _ e5) i);
     }
 
 pub process-mk : (n t : ℕ) (p : Process) → Within n t p → soundProcess n t p ≡ true
@@ -139,37 +167,51 @@ process-mk n t p b =
     (and-mk _ _ (within-mk _ _ (b .current))
     (and-mk _ _ (within-mk _ _ (b .suspected))
     (and-mk _ _ (within-mk _ _ (b .outbox))
-    (and-mk _ _ (within-mk _ _ (b .estimate)) (every-mk (within n) 0 (p .received) (λ i. within-mk _ _ (b .received i))))))))
+    (and-mk _ _ (within-mk _ _ (b .estimate))
+    (every-mk (within n) 0 (p .received) (λ i. within-mk _ _ (b .received i))))))))
 
 -- what stands outside the array of processes
 no-process : (n t : ℕ) → Within n t noProcess
 no-process n t =
     let z = none-low n in
-    record { round = omega arith; previous = z; current = z; suspected = z; outbox = z; estimate = z; received = λ k. z }
+    record {
+      round = omega arith;
+      previous = z;
+      current = z;
+      suspected = z;
+      outbox = z;
+      estimate = z;
+      received = λ k. z;
+    }
 
 pub sound-on : (s : Bench) → soundOf s ≡ true → Bounds s
-unfolding soundOf opens soundData
+unfolding soundOf soundData
 sound-on s e =
     let o = and-l _ _ e in
     let e1 = and-r _ _ e in
     let e2 = and-r _ _ e1 in
     let e3 = and-r _ _ e2 in
     record {
-      some = below-on _ _ (and-l _ _ o);
-      few = below-on _ _ (and-l _ _ (and-r _ _ o));
-      limit = below-on _ _ (and-r _ _ (and-r _ _ o));
+      some = open-some _ _ o;
+      few = open-few _ _ o;
+      limit = open-limit _ _ o;
       crashed = within-on _ _ (and-l _ _ e1);
       process =
-          λ a. process-on _ _ _ (every-on (soundProcess (s .n) (s .t)) noProcess (s .processes) (process-mk _ _ _ (no-process (s .n) (s .t))) (and-l _ _ e2) a);
+          λ a. process-on _ _ _
+          (every-on (soundProcess (s .n) (s .t)) noProcess (s .processes) (process-mk _ _ _ (no-process (s .n) (s .t)))
+          (and-l _ _ e2) a);
       sent =
-          λ i. within-on _ _ (every-on (soundData (s .n)) noData (s .sent) (within-mk _ 0 (none-low (s .n))) (and-l _ _ e3) i);
-      transit = λ i. within-on _ _ (every-on (within (s .n)) 0 (s .in_transit) (within-mk _ 0 (none-low (s .n))) (and-r _ _ e3) i);
+          λ i. within-on _ _
+          (every-on (soundData (s .n)) noData (s .sent) (within-mk _ 0 (none-low (s .n))) (and-l _ _ e3) i);
+      transit =
+          λ i. within-on _ _
+          (every-on (within (s .n)) 0 (s .in_transit) (within-mk _ 0 (none-low (s .n))) (and-r _ _ e3) i);
     }
 
 pub sound-mk : (s : Bench) → Bounds s → soundOf s ≡ true
-unfolding soundOf opens soundData
+unfolding soundOf soundData
 sound-mk s b =
-    and-mk _ _ (and-mk _ _ (below-mk _ _ (b .some)) (and-mk _ _ (below-mk _ _ (b .few)) (below-mk _ _ (b .limit))))
+    and-mk _ _ (open-mk _ _ (b .some) (b .few) (b .limit))
     (and-mk _ _ (within-mk _ _ (b .crashed))
     (and-mk _ _ (every-mk (soundProcess (s .n) (s .t)) noProcess (s .processes) (λ a. process-mk _ _ _ (b .process a)))
     (and-mk _ _ (every-mk (soundData (s .n)) noData (s .sent) (λ i. within-mk _ _ (b .sent i)))
@@ -270,7 +312,8 @@ effect-low : (s : Bench) → Bounds s → (e : Event) → inRange (s .n) (s .t) 
 unfolding effect inRange withProcess
 effect-low s b (Start a v) h = opens-low s b a _ (within-start (s .n) (s .t) _ (process-low s b a) a v h)
 effect-low s b (Send a y) h =
-    sends-low (withProcess s a (sendOf y (processAt s a))) (with-process s b a _ (within-send (s .n) (s .t) _ (process-low s b a) y)) a _ y (h .second)
+    sends-low (withProcess s a (sendOf y (processAt s a)))
+    (with-process s b a _ (within-send (s .n) (s .t) _ (process-low s b a) y)) a _ y (h .second)
 effect-low s b (Arrive a y (Estimate r)) h =
     arrives-low (withProcess s y (receiveOf a r (processAt s y)))
     (with-process s b y _ (within-receive (s .n) (s .t) _ (process-low s b y) a r (h .0 .first))) a r y
@@ -280,7 +323,8 @@ effect-low s b (Arrive a y Decision) h =
 effect-low s b (Close a) h =
     closes-low s b a _ (within-close (s .n) (s .t) _ (process-low s b a) a _ (λ y. rows-low s b _ y))
 effect-low s b (Crash a) h = with-crashed s b a h
-effect-low s b (Suspect a y) h = with-process s b a _ (within-suspect (s .n) (s .t) _ (process-low s b a) y (h .second))
+effect-low s b (Suspect a y) h =
+    with-process s b a _ (within-suspect (s .n) (s .t) _ (process-low s b a) y (h .second))
 
 -- ---- every event leaves the sizes
 pub record SameSizes (s s′ : Bench) : Type 0 where
@@ -306,28 +350,28 @@ effect-sizes (Crash a) s = record { n = refl; t = refl }
 effect-sizes (Suspect a y) s = record { n = refl; t = refl }
 
 -- ---- every record keeps a bench sound, and an opened one is
-pub sound-step : (s : Bench) (l : List ℕ) → soundOf s ≡ true → soundOf (after s l) ≡ true
+pub sound-step : (s : Bench) (l : List ℕ) → soundOf s ≡ true → soundOf (afterRecord s l) ≡ true
 sound-step s l h = ⊎-elim taken (λ r. rw (refused-keeps s l r) h) (eq-or (refusal s l) 0)
   where
-    taken : refusal s l ≡ 0 → soundOf (after s l) ≡ true
+    taken : refusal s l ≡ 0 → soundOf (afterRecord s l) ≡ true
     taken z =
         let w = accepted s l z in
         rw (w .effects) (sound-mk _ (effect-low s (sound-on s h) (w .event) (w .range)))
 
-pub sizes-step : (s : Bench) (l : List ℕ) → SameSizes s (after s l)
+pub sizes-step : (s : Bench) (l : List ℕ) → SameSizes s (afterRecord s l)
 sizes-step s l = ⊎-elim taken (λ r. rw (refused-keeps s l r) (record { n = refl; t = refl })) (eq-or (refusal s l) 0)
   where
-    taken : refusal s l ≡ 0 → SameSizes s (after s l)
+    taken : refusal s l ≡ 0 → SameSizes s (afterRecord s l)
     taken z = let w = accepted s l z in rw (w .effects) (effect-sizes (w .event) s)
 
 pub sound-opened : (n t : ℕ) → opens n t ≡ true → soundOf (openedOf n t) ≡ true
-unfolding opens openedOf nothingOf
+unfolding openedOf nothingOf
 sound-opened n t e =
     sound-mk (openedOf n t)
     (record {
-      some = below-on 0 n (and-l _ _ e);
-      few = below-on n 17 (and-l _ _ (and-r _ _ e));
-      limit = below-on t n (and-r _ _ (and-r _ _ e));
+      some = open-some n t e;
+      few = open-few n t e;
+      limit = open-limit n t e;
       crashed = none-low n;
       process = each-replicate (Within n t) noProcess 16 idleOf (no-process n t) (within-idle n t);
       sent = each-replicate (λ (x : GlobalData). x .present < 2 ^ n) noData 256 nothingOf (none-low n) (none-low n);

@@ -1,4 +1,4 @@
--- The bench's state: its parts, and the bench with one part changed.
+-- The bench's state: its parts, the bench with one part changed, and the opened bench.
 use mathlib.Core.List.{List, []}
 use mathlib.Core.Bool.{Bool, true, false}
 use Prim.Native.Nat.{ℕ, _+_, _-_, _*_}
@@ -26,51 +26,26 @@ transitAt b a r = getD (b .in_transit) (a * 17 + r) 0
 unfoldable pub crashedAt : Bench → ℕ → Bool
 crashedAt b a = has (b .crashed) a
 
+-- ---- a bench by its fields, in the order of the struct
+abbrev pub benchOf : ℕ → ℕ → ℕ → List Process → List GlobalData → List ℕ → Bench
+benchOf n t m ps rows l = record { n = n; t = t; crashed = m; processes = ps; sent = rows; in_transit = l }
+
+-- with a among the crashed, another process a, another estimate sent in round r,
+-- another set to which message r of a is on its way
+unfoldable pub withCrashed : Bench → ℕ → Bench
+withCrashed b a = benchOf (b .n) (b .t) (insertOf (b .crashed) a) (b .processes) (b .sent) (b .in_transit)
+
 unfoldable pub withProcess : Bench → ℕ → Process → Bench
-withProcess b a p =
-    record { n = b .n; t = b .t; crashed = b .crashed; processes = set (b .processes) a p; sent = b .sent; in_transit = b .in_transit }
+withProcess b a p = benchOf (b .n) (b .t) (b .crashed) (set (b .processes) a p) (b .sent) (b .in_transit)
 
 unfoldable pub withSent : Bench → ℕ → ℕ → GlobalData → Bench
 withSent b a r g =
-    record {
-      n = b .n;
-      t = b .t;
-      crashed = b .crashed;
-      processes = b .processes;
-      sent = set (b .sent) (a * 16 + (r - 1)) g;
-      in_transit = b .in_transit;
-    }
+    benchOf (b .n) (b .t) (b .crashed) (b .processes) (set (b .sent) (a * 16 + (r - 1)) g) (b .in_transit)
 
 unfoldable pub withTransit : Bench → ℕ → ℕ → ℕ → Bench
 withTransit b a r m =
-    record {
-      n = b .n;
-      t = b .t;
-      crashed = b .crashed;
-      processes = b .processes;
-      sent = b .sent;
-      in_transit = set (b .in_transit) (a * 17 + r) m;
-    }
-
-unfoldable pub withCrashed : Bench → ℕ → Bench
-withCrashed b a =
-    record {
-      n = b .n;
-      t = b .t;
-      crashed = insertOf (b .crashed) a;
-      processes = b .processes;
-      sent = b .sent;
-      in_transit = b .in_transit;
-    }
+    benchOf (b .n) (b .t) (b .crashed) (b .processes) (b .sent) (set (b .in_transit) (a * 17 + r) m)
 
 -- the opened bench: nobody has started or crashed, and nothing is sent
 unfoldable pub openedOf : ℕ → ℕ → Bench
-openedOf n t =
-    record {
-      n = n;
-      t = t;
-      crashed = emptySet;
-      processes = replicate 16 idleOf;
-      sent = replicate 256 nothingOf;
-      in_transit = replicate 272 emptySet;
-    }
+openedOf n t = benchOf n t emptySet (replicate 16 idleOf) (replicate 256 nothingOf) (replicate 272 emptySet)

@@ -10,13 +10,14 @@ use native.Mathlib.Numerals.{add-one}
 use native.Mathlib.Omega.{arith}
 use lib.ListN.{length, getD, set, drop, length-append}
 use lib.Seq as seq
-use Rattle.sets.specs.Count.{bit, count}
+use Rattle.sets.specs.Truth.{bit, choose}
+use Rattle.sets.specs.Lists.{count, joined}
 use Rattle.sets.specs.Laws.{size-count}
 use Rattle.sets.specs.Set.{has, sizeOf}
-use Rattle.sets.specs.Truth.{choose, choose-on, choose-off, eq-or}
+use Rattle.sets.specs.TruthLaws.{choose-on, choose-off, eq-or}
 use Rattle.bench.specs.declared.Bench.{Bench}
 use Rattle.bench.specs.State.{transitAt}
-use Rattle.bench.specs.Calls.{joined, messageBytes, transitBytes}
+use Rattle.bench.specs.TransitList.{messageBytes, transitBytes}
 
 -- ---- the list by its parts: m is a set in transit, `words` all of them
 unfoldable pub setBytes : ℕ → ℕ → ℕ → ℕ → List ℕ
@@ -55,11 +56,13 @@ stores-three out at x y z =
     let e₂ : at + 2 ≡ suc (suc at) = omega arith in
     record { place = refl; list = rw (e₁, e₂) }
 
-pub stores-length : (out : List ℕ) (at : ℕ) (l out′ : List ℕ) (at′ : ℕ) → Stores out at l out′ at′ → length out′ ≡ length out
+pub stores-length : (out : List ℕ) (at : ℕ) (l out′ : List ℕ) (at′ : ℕ) → Stores out at l out′ at′
+    → length out′ ≡ length out
 stores-length out at l out′ at′ s = ap length (s .list) ∙ seq.length-sets out at l
 
 -- stored at the front
-pub stores-front : (out l out′ : List ℕ) (at′ : ℕ) → length l ≤ length out → Stores out 0 l out′ at′ → out′ ≡ l ++ drop (length l) out
+pub stores-front : (out l out′ : List ℕ) (at′ : ℕ) → length l ≤ length out → Stores out 0 l out′ at′
+    → out′ ≡ l ++ drop (length l) out
 stores-front out l out′ at′ h s =
     let e : 0 + length l ≡ length l = omega arith in
     s .list ∙ seq.sets-eq l out 0 (omega arith) ∙ ap (λ (k : ℕ). l ++ drop k out) e
@@ -80,10 +83,12 @@ module _ (f : ℕ → List ℕ) where
   pub joined-room : (n k : ℕ) → k < n → length (joined k f) + length (f k) ≤ length (joined n f)
   joined-room zero k h = absurd (omega arith)
   joined-room (suc n) k h =
-      ⊎-elim (λ u. rw u (omega (arith, joined-length n))) (λ u. omega (arith, joined-length n, joined-room n k (omega arith))) (eq-or k n)
+      ⊎-elim (λ u. rw u (omega (arith, joined-length n)))
+      (λ u. omega (arith, joined-length n, joined-room n k (omega arith))) (eq-or k n)
 
   pub stores-more : (out : List ℕ) (at k : ℕ) (out₁ : List ℕ) (at₁ : ℕ) (out₂ : List ℕ) (at₂ : ℕ)
-      → Stores out at (joined k f) out₁ at₁ → Stores out₁ at₁ (f k) out₂ at₂ → Stores out at (joined (k + 1) f) out₂ at₂
+      → Stores out at (joined k f) out₁ at₁ → Stores out₁ at₁ (f k) out₂ at₂
+      → Stores out at (joined (k + 1) f) out₂ at₂
   unfolding joined
   stores-more out at k out₁ at₁ out₂ at₂ s t =
       rw add-one
@@ -93,13 +98,15 @@ module _ (f : ℕ → List ℕ) where
       })
 
   -- the next one has room where all have
-  pub stores-room : (out : List ℕ) (at n k : ℕ) (out₁ : List ℕ) (at₁ : ℕ) → k < n → at + length (joined n f) ≤ length out
+  pub stores-room : (out : List ℕ) (at n k : ℕ) (out₁ : List ℕ) (at₁ : ℕ) → k < n
+      → at + length (joined n f) ≤ length out
       → Stores out at (joined k f) out₁ at₁ → at₁ + length (f k) ≤ length out₁
   stores-room out at n k out₁ at₁ h room s =
       omega (arith, s .place, stores-length out at (joined k f) out₁ at₁ s, joined-room n k h)
 
   -- c messages so far, and s more
-  pub sum-more : (c s k : ℕ) → c * 3 ≡ length (joined k f) → s * 3 ≡ length (f k) → (c + s) * 3 ≡ length (joined (k + 1) f)
+  pub sum-more : (c s k : ℕ) → c * 3 ≡ length (joined k f) → s * 3 ≡ length (f k)
+      → (c + s) * 3 ≡ length (joined (k + 1) f)
   sum-more c s k p q = rw add-one (omega (arith, joined-length k))
 
 -- ---- three bytes for each member

@@ -60,8 +60,9 @@ pub enum Answer {
     Refused(Refusal),
 }
 
-// The state: n processes and the crash limit t, who has crashed, the processes, for each of them and each round from 1 the estimate
-// that it held when the round opened, and for each of them and each message (0: its decision) to whom it is on its way.
+// The state: n processes and the crash limit t, who has crashed, the processes, for each of them
+// and each round from 1 the estimate that it held when the round opened, and for each of them and each message (0: its
+// decision) to whom it is on its way.
 #[repr(C)]
 pub struct Bench {
     pub n: u8,

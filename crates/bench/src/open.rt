@@ -14,7 +14,7 @@ ghost use Rattle.bench.specs.Calls.{openOf};
 pub fn sizes_open(n: u8, t: u8) -> bool
     ensures { λ r. ⌜ r ≡ opens n t ⌝ }
 {
-    (0 < n) & ((n < 17) & (t < n))
+    sets::one_to(16, n) & (t < n)
 }
 
 impl Bench {

@@ -4,37 +4,40 @@ use mathlib.Core.Path.{_≡_, refl}
 use mathlib.Core.Bool.{Bool, true, false, not}
 use Prim.Native.Nat.{ℕ, _≤_}
 use Rattle.sets.specs.Set.{has, sizeOf, emptySet}
-use Rattle.sets.specs.Truth.{_&&_, same, below, choose, and-l, below-on}
+use Rattle.sets.specs.Truth.{_&&_, same, below, choose, check}
+use Rattle.sets.specs.TruthLaws.{and-l, below-on}
 use Rattle.process.specs.declared.Process.{Process}
 use Rattle.process.specs.Steps.{hasDecided, takesPart, dueOf}
-use Rattle.bench.specs.Refuse.{check, possible, ready, allowed}
+use Rattle.bench.specs.Refuse.{passes7, passes8, passes9}
 
 -- the number of the first check that fails, or 0
-unfoldable pub firstOf : Bool → Bool → Bool → Bool → ℕ
-firstOf crashed possible ready allowed = check (not crashed) 6 (check possible 7 (check ready 8 (check allowed 9 0)))
+unfoldable pub firstFailed : Bool → Bool → Bool → Bool → ℕ
+firstFailed crashed passes7 passes8 passes9 =
+    check (not crashed) 6 (check passes7 7 (check passes8 8 (check passes9 9 0)))
 
 -- a start of a, in that round
 unfoldable pub startCheck : ℕ → ℕ → ℕ → ℕ
-startCheck crashed a round = firstOf (has crashed a) (same round 0) true true
+startCheck crashed a round = firstFailed (has crashed a) (same round 0) true true
 
 -- a acts on a message for b: b is in the set m of those to whom it is owed, or is on its way
 unfoldable pub messageCheck : ℕ → ℕ → ℕ → ℕ → ℕ
-messageCheck crashed a m b = firstOf (has crashed a) (has m b) true true
+messageCheck crashed a m b = firstFailed (has crashed a) (has m b) true true
 
 unfoldable pub closeCheck : ℕ → ℕ → Process → ℕ
-closeCheck crashed a p = firstOf (has crashed a) (takesPart p && same (p .outbox) emptySet) (dueOf a p) true
+closeCheck crashed a p = firstFailed (has crashed a) (takesPart p && same (p .outbox) emptySet) (dueOf a p) true
 
 unfoldable pub crashCheck : ℕ → ℕ → ℕ → ℕ
-crashCheck crashed a t = firstOf (has crashed a) true true (below (sizeOf crashed) t)
+crashCheck crashed a t = firstFailed (has crashed a) true true (below (sizeOf crashed) t)
 
 -- a, which suspects those in m, is to suspect b
 unfoldable pub suspectCheck : ℕ → ℕ → ℕ → ℕ → ℕ
-suspectCheck crashed a m b = firstOf (has crashed a) (has crashed b && not (has m b)) true true
+suspectCheck crashed a m b = firstFailed (has crashed a) (has crashed b && not (has m b)) true true
 
 -- what is impossible is so whatever is checked after it
-pub first-impossible : (crashed ready allowed : Bool) → firstOf crashed false ready allowed ≡ firstOf crashed false false true
-unfolding firstOf check choose
-first-impossible crashed ready allowed = refl
+pub first-impossible : (crashed passes8 passes9 : Bool)
+    → firstFailed crashed false passes8 passes9 ≡ firstFailed crashed false false true
+unfolding firstFailed check choose
+first-impossible crashed passes8 passes9 = refl
 
 -- a process that takes part has started
 pub takes-started : (p : Process) → takesPart p ≡ true → 1 ≤ p .round

@@ -2,10 +2,11 @@
 use process::Process;
 ghost use mathlib.Core.Path.{_≡_};
 ghost use Prim.Native.Nat.{_<_, _≤_};
-ghost use Rattle.checks.specs.Checks.{firstOf, startCheck, messageCheck, closeCheck, crashCheck, suspectCheck};
+ghost use Rattle.checks.specs.Checks.{firstFailed, startCheck, messageCheck};
+ghost use Rattle.checks.specs.Checks.{closeCheck, crashCheck, suspectCheck};
 
 fn first(crashed: bool, possible: bool, ready: bool, allowed: bool) -> u8
-    ensures { λ r. ⌜ r ≡ firstOf crashed possible ready allowed ⌝ }
+    ensures { λ r. ⌜ r ≡ firstFailed crashed possible ready allowed ⌝ }
 {
     if crashed {
         6

@@ -3,13 +3,13 @@ use bench::Bench;
 use bench::Refusal;
 use bench::Shown;
 use global_data::GlobalData;
-use records::is_process;
+use sets::one_to;
 use soundness::is_sound;
 ghost use mathlib.Core.Path.{_≡_};
 ghost use mathlib.Core.List.{_++_};
 ghost use Prim.Native.Nat.{_≤_};
 ghost use lib.ListN.{length, drop};
-ghost use Rattle.sets.specs.Each.{each};
+ghost use Rattle.sets.specs.Lists.{each};
 ghost use Rattle.sets.specs.Truth.{choose};
 ghost use Rattle.bench.specs.Calls.{wordAt, showOf, shownIn};
 
@@ -33,7 +33,8 @@ fn put_entries(out: &mut [u32], n: u8, g: GlobalData)
     }
 }
 
-// Writes what process `process`, from 1, has decided on, and gives its present marks. Nothing is written where it refuses.
+// Writes what process `process`, from 1, has decided on, and gives its present marks.
+// Nothing is written where it refuses.
 pub fn global_data(b: Bench, process: u8, out: &mut [u32]) -> Shown
     ensures { λ r. ⌜ r ≡ showOf b process (now (out .entry)) ⌝ }
     ensures { λ r. ⌜ now (out .exit) ≡ shownIn b process (now (out .entry)) ⌝ }
@@ -42,7 +43,7 @@ pub fn global_data(b: Bench, process: u8, out: &mut [u32]) -> Shown
         return Shown::Refused(Refusal { number: 2 });
     }
     let n = b.n;
-    if !is_process(n, process) {
+    if !one_to(n, process) {
         return Shown::Refused(Refusal { number: 5 });
     }
     if out.len() < n as usize {

@@ -1,12 +1,12 @@
-// The aggregates of global data for a host in C or Rust (include/gerzulan.h). A call gives 0 and writes the lent word, or gives the number
-// of its refusal and leaves the word.
+// The aggregates of global data for a host in C or Rust (include/gerzulan.h). A call gives 0 and writes the lent word,
+// or gives the number of its refusal and leaves the word.
 use aggregates::ChangeAnswer;
 use aggregates::GoAnswer;
 use aggregates::LeadAnswer;
 use aggregates::TotalAnswer;
 ghost use mathlib.Core.Path.{_≡_};
 ghost use Rattle.aggregates.specs.Aggregates.{totalOf, goOf, leadOf, changeOf};
-ghost use Rattle.sets.specs.Count.{bit};
+ghost use Rattle.sets.specs.Truth.{bit};
 ghost use Rattle.export_aggregates.specs.Words.{refusalIn, wordIn};
 
 #[no_mangle]
@@ -47,7 +47,8 @@ pub extern "C" fn gerzulan_lead(
     value: &mut u32,
 ) -> u32
     ensures { λ r. ⌜ (r ≡ refusalIn (leadOf n (now (entries .entry)) marks))
-        × (now (process .exit) ≡ wordIn (λ c. c .process) (leadOf n (now (entries .entry)) marks) (now (process .entry)))
+        × (now (process .exit)
+        ≡ wordIn (λ c. c .process) (leadOf n (now (entries .entry)) marks) (now (process .entry)))
         × (now (value .exit) ≡ wordIn (λ c. c .value) (leadOf n (now (entries .entry)) marks) (now (value .entry))) ⌝ }
 {
     match aggregates::lead(n, entries, marks) {
@@ -73,7 +74,8 @@ pub extern "C" fn gerzulan_change(
     difference: &mut i64,
 ) -> u32
     ensures { λ r. ⌜ (r ≡ refusalIn (changeOf n (now (entries .entry)) marks process standing))
-        × (now (difference .exit) ≡ wordIn (λ z. z) (changeOf n (now (entries .entry)) marks process standing) (now (difference .entry))) ⌝ }
+        × (now (difference .exit)
+        ≡ wordIn (λ z. z) (changeOf n (now (entries .entry)) marks process standing) (now (difference .entry))) ⌝ }
 {
     match aggregates::change(n, entries, marks, process, standing) {
         ChangeAnswer::Difference(z) => {

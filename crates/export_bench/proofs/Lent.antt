@@ -1,5 +1,5 @@
--- The host's bench behind a reference: its machine value, the two halves of its borrow, the value seen and the place, the reference whole, and what is
--- had of it once it is given up to a call.
+-- The host's bench behind a reference: its machine value, the two halves of its borrow, the value seen and the place,
+-- the reference whole, and what is had of it once it is given up to a call.
 use mathlib.Core.List.{[], _∷_}
 use Prim.Native.Nat.{ℕ}
 use mir.Syntax.{named}

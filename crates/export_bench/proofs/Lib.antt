@@ -1,2 +1,3 @@
 pub mod Lent
 mod RunIn
+mod Walk

@@ -1,5 +1,6 @@
--- The call of `run_in` that the exported calls make. The bench's reference is given up to it for good, at its own lifetime and name, so what the call
--- says of the last bench is what is said of it at exit. What the slice owns can be had twice.
+-- The call of `run_in` that the exported calls make. The bench's reference is given up to it for good,
+-- at its own lifetime and name, so what the call says of the last bench is what is said of it at exit.
+-- What the slice owns can be had twice.
 use mathlib.Core.Path.{_≡_, refl}
 use mathlib.Core.List.{List, [], _∷_}
 use Prim.Native.Nat.{ℕ, _<_, _^_}
@@ -15,7 +16,8 @@ use prog.Wp.{Heap}
 use ghost.Atoms.{Atoms, sem}
 use contract.Lifetimes.{Lfts}
 use contract.Monad.{Fun, fact}
-use types.Kit.{Given, Item, ‵, raw, _⊛_, ⋆, some, later, _$_, _∵_, !, qed, move, keep, use1, use2, split, join, pick, rewrite, fsplit, fjoin, frame, done}
+use types.Kit.{Given, Item, ‵, raw, _⊛_, ⋆, some, later, _$_, _∵_, !, qed, move, keep}
+use types.Kit.{use1, use2, split, join, pick, rewrite, fsplit, fjoin, frame, done}
 use denote.RattleType.{owns}
 use denote.Laws.{Is}
 use denote.Plain.{uint-makes}
@@ -42,7 +44,8 @@ module _ {M : Type 1} (𝓤 : URA M) (H : Heap 𝓤) (A : Atoms 𝓤) (mem : Mem
   abbrev pub Run : Contract 𝓤
   Run = tripleOf 𝓤 H A run.signature (run.spec 𝓤 H A mem exec)
 
-module _ {M : Type 1} (𝓤 : URA M) (H : Heap 𝓤) (A : Atoms 𝓤) (W : Given 𝓤 H A) (mem : Memory → SProp 𝓤) (exec : Routine → Fun 𝓤)
+module _ {M : Type 1} (𝓤 : URA M) (H : Heap 𝓤) (A : Atoms 𝓤) (W : Given 𝓤 H A) (mem : Memory → SProp 𝓤)
+    (exec : Routine → Fun 𝓤)
     (κ κ₁ : Lft) (q q₁ : Share) (b o : ℕ) (γ : GName) (s : Bench) (l : RefT (List ℕ)) (n : ℕ) where
   abbrev κs : Lfts 2
   κs = (κ, (κ₁, tt))
@@ -64,18 +67,23 @@ module _ {M : Type 1} (𝓤 : URA M) (H : Heap 𝓤) (A : Atoms 𝓤) (W : Given
 
   asked : ent 𝓤 (onEntry 𝓤 H A run.signature κs (q, (q₁, tt)) passed passed-vals) (Run 𝓤 H A mem exec .pre to-run)
   asked =
-      qed W ((‵ (flft κ q) ⊛ ‵ (flft κ₁ q₁) ⊛ ‵ ftrue) ∷ ‵ (owns (MutRef (named 0) κ bench.the-row ∷ ShrSlice (named 1) κ₁ u8 ∷ u32 ∷ []) passed passed-vals) ∷ []) ∵
+      qed W ((‵ (flft κ q) ⊛ ‵ (flft κ₁ q₁) ⊛ ‵ ftrue)
+      ∷ ‵ (owns (MutRef (named 0) κ bench.the-row ∷ ShrSlice (named 1) κ₁ u8 ∷ u32 ∷ []) passed passed-vals) ∷ []) ∵
       join ! $ frame ! $ done !
 
   pub before-run : n < 2 ^ 32
-      → ent 𝓤 (⋆ 𝓤 H A (‵ (benchRef κ b o γ s) ∷ ‵ (flft κ q) ∷ (‵ (flft κ₁ q₁) ⊛ ‵ Slice) ∷ [])) (sep 𝓤 (Run 𝓤 H A mem exec .pre to-run) (sem 𝓤 H A Slice))
+      → ent 𝓤 (⋆ 𝓤 H A (‵ (benchRef κ b o γ s) ∷ ‵ (flft κ q) ∷ (‵ (flft κ₁ q₁) ⊛ ‵ Slice) ∷ []))
+      (sep 𝓤 (Run 𝓤 H A mem exec .pre to-run) (sem 𝓤 H A Slice))
   before-run fits =
-      qed W (‵ (benchRef κ b o γ s) ∷ ‵ (flft κ q) ∷ (‵ (flft κ₁ q₁) ⊛ ‵ Slice) ∷ []) ∵ move ! (2 ∷ []) $ split ! $ move ! (1 ∷ []) $
+      qed W (‵ (benchRef κ b o γ s) ∷ ‵ (flft κ q) ∷ (‵ (flft κ₁ q₁) ⊛ ‵ Slice) ∷ []) ∵ move ! (2 ∷ []) $ split ! $
+      move ! (1 ∷ []) $
       use1 W (‵ Slice ⊛ ‵ Slice) (shr-slice-copy 𝓤 H A W (named 0) κ₁ u8 .twice l (v ∷ [])) $ split ! $
       -- [slice; slice; token₁; the reference; token]
-      nothing ! $ owned ! u32 (Is u32) (uint-makes 𝓤 H A W w32) n _ (refl, fits) $ fjoin ! $ move ! (1 ∷ 0 ∷ []) $ fjoin ! $ move ! (3 ∷ 0 ∷ []) $ fjoin ! $
+      nothing ! $ owned ! u32 (Is u32) (uint-makes 𝓤 H A W w32) n _ (refl, fits) $ fjoin ! $ move ! (1 ∷ 0 ∷ []) $
+      fjoin ! $ move ! (3 ∷ 0 ∷ []) $ fjoin ! $
       -- [the parameters; slice; token₁; token]
-      nothing ! $ move ! (3 ∷ 0 ∷ []) $ join ! $ move ! (3 ∷ 0 ∷ []) $ join ! $ use2 W (raw (Run 𝓤 H A mem exec .pre to-run)) asked $ frame ! $ done !
+      nothing ! $ move ! (3 ∷ 0 ∷ []) $ join ! $ move ! (3 ∷ 0 ∷ []) $ join ! $
+      use2 W (raw (Run 𝓤 H A mem exec .pre to-run)) asked $ frame ! $ done !
 
   -- what the call gives at the machine value u
   abbrev pub after-run : Val → Item 𝓤
@@ -87,9 +95,12 @@ module _ {M : Type 1} (𝓤 : URA M) (H : Heap 𝓤) (A : Atoms 𝓤) (W : Given
   ran = runOf n (now l) s
 
   pub run-said : (r : Reached)
-      → ent 𝓤 (ensured 𝓤 H A run.ended (run.clauses 𝓤 H A mem exec) κs passed tt r) (sep 𝓤 (sem 𝓤 H A (benchLast γ (ran .bench))) (fact 𝓤 (r ≡ reachedOf ran)))
+      → ent 𝓤 (ensured 𝓤 H A run.ended (run.clauses 𝓤 H A mem exec) κs passed tt r)
+      (sep 𝓤 (sem 𝓤 H A (benchLast γ (ran .bench))) (fact 𝓤 (r ≡ reachedOf ran)))
   run-said r =
       qed W (raw (ensured 𝓤 H A run.ended (run.clauses 𝓤 H A mem exec) κs passed tt r) ∷ []) ∵
-      use1 W (some (λ (ws : Bench × (Unit {0} × (Unit {0} × Unit {0}))). ‵ (lasts run.ended κs passed ws) ⊛ raw (fact 𝓤 ((r ≡ reachedOf ran) × (ws .0 ≡ ran .bench))))) (id⊢ 𝓤 _) $ pick ! (λ ws.
+      use1 W (some (λ (ws : Bench × (Unit {0} × (Unit {0} × Unit {0}))).
+      ‵ (lasts run.ended κs passed ws) ⊛ raw (fact 𝓤 ((r ≡ reachedOf ran) × (ws .0 ≡ ran .bench))))) (id⊢ 𝓤 _) $
+      pick ! (λ ws.
       split ! $ move ! (1 ∷ []) $ heard ! ((r ≡ reachedOf ran) × (ws .0 ≡ ran .bench)) (λ e. fsplit ! $
       rewrite ! 0 (λ (x : Bench). ‵ (benchLast γ x)) (e .1) refl $ keep ! (0 ∷ []) $ says ! (e .0) $ done !))

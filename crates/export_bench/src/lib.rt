@@ -1,5 +1,5 @@
-// The calls for a host in C or Rust (include/gerzulan.h) on a bench that it lends: each reads it, has the work done by value, and stores
-// what comes of it. What a call answers is a number, by the definitions of `answers`.
+// The calls for a host in C or Rust (include/gerzulan.h) on a bench that it lends: each reads it, has the work done by
+// value, and stores what comes of it. What a call answers is a number, by the definitions of `answers`.
 use answers::Progress;
 use answers::Reached;
 use answers::host_ran;
@@ -13,20 +13,24 @@ use bench::Counters;
 use one_record::record_in;
 use run::run_bytes;
 ghost use mathlib.Core.Path.{_≡_};
-ghost use Rattle.bench.specs.Calls.{openOf, stepOf, tallyOf, runOf, showOf, shownIn, listOf, listedIn};
-ghost use Rattle.answers.specs.Numbers.{answerNumber, causeNumber, shownNumber, listedNumber, openedIn, progressOf, reachedOf};
+ghost use Rattle.bench.specs.Calls.{openOf, stepOf, tallyOf, runOf, showOf, shownIn};
+ghost use Rattle.bench.specs.TransitList.{listOf, listedIn};
+ghost use Rattle.answers.specs.Numbers.{answerNumber, causeNumber, shownNumber};
+ghost use Rattle.answers.specs.Numbers.{listedNumber, openedIn, progressOf, reachedOf};
 
 // Opens a bench of n processes of which t may crash. Refused, b stays.
 #[no_mangle]
 pub extern "C" fn gerzulan_bench_open(b: &mut Bench, n: u8, t: u8) -> u32
-    ensures { λ r. ⌜ (r ≡ answerNumber (openOf n t .answer)) × (now (b .exit) ≡ openedIn (now (b .entry)) (openOf n t)) ⌝ }
+    ensures { λ r.
+        ⌜ (r ≡ answerNumber (openOf n t .answer)) × (now (b .exit) ≡ openedIn (now (b .entry)) (openOf n t)) ⌝ }
 {
     let r = open_by(*b, n, t);
     *b = r.bench;
     r.number
 }
 
-// A run of a lent bench. The one place that calls run, so that the compiler joins the two and drops most copies of the state.
+// A run of a lent bench. The one place that calls run, so that the compiler joins the two and
+// drops most copies of the state.
 fn run_in(b: &mut Bench, schedule: &[u8], budget: u32) -> Reached
     ensures { λ r. ⌜ (r ≡ reachedOf (runOf budget (now (schedule .entry)) (now (b .entry))))
         × (now (b .exit) ≡ runOf budget (now (schedule .entry)) (now (b .entry)) .bench) ⌝ }
@@ -49,7 +53,8 @@ pub extern "C" fn gerzulan_bench_step(b: &mut Bench, rec: &[u8], tally: &mut Cou
     h.number
 }
 
-// A run; it gives why it ended: 0 the schedule is empty, 1 the budget is spent, else 16 more than the number of the refusal.
+// A run; it gives why it ended: 0 the schedule is empty, 1 the budget is spent,
+// else 16 more than the number of the refusal.
 #[no_mangle]
 pub extern "C" fn gerzulan_bench_run(
     b: &mut Bench,
@@ -67,7 +72,8 @@ pub extern "C" fn gerzulan_bench_run(
     h.number
 }
 
-// The global data that a process has decided on. It gives the present marks, or the number of the refusal in the high 32 bits.
+// The global data that a process has decided on. It gives the present marks, or the number of
+// the refusal in the high 32 bits.
 #[no_mangle]
 pub extern "C" fn gerzulan_bench_global_data(b: &Bench, process: u8, out: &mut [u32]) -> u64
     ensures { λ r. ⌜ (r ≡ shownNumber (showOf (now (b .entry)) process (now (out .entry))))

@@ -1,37 +1,29 @@
--- The global data (document 01's sheet): an entry for each process, absent or a value, and how entries are filled and compared.
+-- The global data (document 01's sheet): an entry for each process, absent or a value,
+-- and how entries are filled and compared.
 use mathlib.Core.Bool.{Bool, true, false}
 use mathlib.Core.List.{List, []}
 use Prim.Native.Nat.{ℕ, zero, suc}
 use lib.ListN.{getD, set, replicate}
-use Rattle.sets.specs.Each.{each}
-use Rattle.sets.specs.Every.{every}
+use Rattle.sets.specs.Lists.{each, every}
 use Rattle.sets.specs.Set.{has, insertOf, unionOf, differenceOf, emptySet}
 use Rattle.sets.specs.Truth.{same, choose}
 use Rattle.global_data.specs.declared.GlobalData.{GlobalData}
+use Rattle.global_data.specs.declared.Entry.{Entry}
+use Rattle.global_data.specs.declared.Entry.the-variants.{Absent, Value}
 
--- an entry of the global data: document 01's blank, or a count
-pub data Entry : Type 0 where
-  absent : Entry
-  value : ℕ → Entry
-
--- the entry of a present bit and a word
+-- the entry of a present bit and a word: document 01's blank, or a count
 abbrev pub entry : Bool → ℕ → Entry
-entry b x = choose b (value x) absent
+entry b x = choose b (Value x) Absent
 
 unfoldable pub entryOf : GlobalData → ℕ → Entry
 entryOf g k = entry (has (g .present) k) (getD (g .values) k 0)
 
--- an absent entry takes the other
-unfoldable pub orElse : Entry → Entry → Entry
-orElse absent e = e
-orElse (value v) e = value v
-
 -- absent in both, or one value in both
 unfoldable pub sameEntry : Entry → Entry → Bool
-sameEntry absent absent = true
-sameEntry absent (value w) = false
-sameEntry (value v) absent = false
-sameEntry (value v) (value w) = same v w
+sameEntry Absent Absent = true
+sameEntry Absent (Value w) = false
+sameEntry (Value v) Absent = false
+sameEntry (Value v) (Value w) = same v w
 
 -- every entry absent
 unfoldable pub nothingOf : GlobalData

@@ -7,36 +7,42 @@ use Prim.Native.Nat.{ℕ, zero, suc, _+_, _-_, _^_, _≤_, _<_}
 use native.Mathlib.Omega.{arith}
 use lib.ListN.{length, getD, replicate, length-set}
 use lib.Seq.{getD-set-same}
-use Rattle.sets.specs.Each.{each, length-each, getD-each}
-use Rattle.sets.specs.Every.{every-on, every-mk, every-not}
+use Rattle.sets.specs.Lists.{each}
+use Rattle.sets.specs.EachLaws.{length-each, getD-each}
+use Rattle.sets.specs.EveryLaws.{every-on, every-mk, every-not}
 use Rattle.sets.specs.Laws.{has-empty, has-insert, has-union, has-difference, union-lt}
 use Rattle.sets.specs.Set.{has}
-use Rattle.sets.specs.Truth as truth
-use Rattle.sets.specs.Truth.{_&&_, _||_, same, choose, Is, on, off, is, clash, both-ways, choose-on, choose-off, or-off-r, or-mk-l, or-mk-r, eq-or}
-use Rattle.global_data.specs.GlobalData.{Entry, absent, value, entry, entryOf, orElse, sameEntry, nothingOf, oneOf, filledWord, fillOf, fillFrom, sameTo, allSame}
+use Rattle.sets.specs.TruthLaws as truth
+use Rattle.sets.specs.Truth.{_&&_, _||_, same, choose}
+use Rattle.sets.specs.TruthLaws.{Is, on, off, is, clash, both-ways, choose-on}
+use Rattle.sets.specs.TruthLaws.{choose-off, or-off-r, or-mk-l, or-mk-r, eq-or}
+use Rattle.global_data.specs.declared.Entry.{Entry}
+use Rattle.global_data.specs.declared.Entry.the-variants.{Absent, Value}
+use Rattle.global_data.specs.GlobalData.{entry, entryOf, sameEntry, nothingOf, oneOf}
+use Rattle.global_data.specs.GlobalData.{filledWord, fillOf, fillFrom, sameTo, allSame}
 use Rattle.global_data.specs.declared.GlobalData.{GlobalData}
 
 -- ---- entries
-pub entry-present : (g : GlobalData) (k : ℕ) → has (g .present) k ≡ true → entryOf g k ≡ value (getD (g .values) k 0)
+pub entry-present : (g : GlobalData) (k : ℕ) → has (g .present) k ≡ true → entryOf g k ≡ Value (getD (g .values) k 0)
 unfolding entryOf
-entry-present g k e = choose-on (has (g .present) k) (value (getD (g .values) k 0)) absent e
+entry-present g k e = choose-on (has (g .present) k) (Value (getD (g .values) k 0)) Absent e
 
-pub entry-absent : (g : GlobalData) (k : ℕ) → has (g .present) k ≡ false → entryOf g k ≡ absent
+pub entry-absent : (g : GlobalData) (k : ℕ) → has (g .present) k ≡ false → entryOf g k ≡ Absent
 unfolding entryOf
-entry-absent g k e = choose-off (has (g .present) k) (value (getD (g .values) k 0)) absent e
+entry-absent g k e = choose-off (has (g .present) k) (Value (getD (g .values) k 0)) Absent e
 
 -- an entry is not absent and a value
-pub not-both : {A : Type 0} (e : Entry) (v : ℕ) → e ≡ absent → e ≡ value v → A
+pub not-both : {A : Type 0} (e : Entry) (v : ℕ) → e ≡ Absent → e ≡ Value v → A
 not-both e v p q = let z : _≡_ {A = ℕ} 0 1 = cc in absurd (omega arith)
 
-pub value-present : (g : GlobalData) (k v : ℕ) → entryOf g k ≡ value v → has (g .present) k ≡ true
+pub value-present : (g : GlobalData) (k v : ℕ) → entryOf g k ≡ Value v → has (g .present) k ≡ true
 value-present g k v e = go (is (has (g .present) k))
   where
     go : Is (has (g .present) k) → has (g .present) k ≡ true
     go (on t) = t
     go (off f) = not-both (entryOf g k) v (entry-absent g k f) e
 
-pub absent-clear : (g : GlobalData) (k : ℕ) → entryOf g k ≡ absent → has (g .present) k ≡ false
+pub absent-clear : (g : GlobalData) (k : ℕ) → entryOf g k ≡ Absent → has (g .present) k ≡ false
 absent-clear g k e = go (is (has (g .present) k))
   where
     go : Is (has (g .present) k) → has (g .present) k ≡ false
@@ -44,12 +50,12 @@ absent-clear g k e = go (is (has (g .present) k))
     go (off f) = f
 
 -- an entry is absent or a value, with the equation kept
-pub absent-or : (e : Entry) → (e ≡ absent) ⊎ ((v : ℕ) × (e ≡ value v))
-absent-or absent = inl refl
-absent-or (value v) = inr (v, refl)
+pub absent-or : (e : Entry) → (e ≡ Absent) ⊎ ((v : ℕ) × (e ≡ Value v))
+absent-or Absent = inl refl
+absent-or (Value v) = inr (v, refl)
 
 -- ---- nothing, and one entry
-pub entry-nothing : (k : ℕ) → entryOf nothingOf k ≡ absent
+pub entry-nothing : (k : ℕ) → entryOf nothingOf k ≡ Absent
 unfolding nothingOf
 entry-nothing k = entry-absent nothingOf k (has-empty k)
 
@@ -61,14 +67,14 @@ one-word : (i v : ℕ) → i < 16 → getD (oneOf i v .values) i 0 ≡ v
 unfolding oneOf
 one-word i v h = getD-set-same (replicate 16 0) i v 0 h
 
-pub entry-one : (i v k : ℕ) → i < 16 → entryOf (oneOf i v) k ≡ choose (same k i) (value v) absent
+pub entry-one : (i v k : ℕ) → i < 16 → entryOf (oneOf i v) k ≡ choose (same k i) (Value v) Absent
 entry-one i v k h = go (is (same k i))
   where
-    go : Is (same k i) → entryOf (oneOf i v) k ≡ choose (same k i) (value v) absent
+    go : Is (same k i) → entryOf (oneOf i v) k ≡ choose (same k i) (Value v) Absent
     go (on t) =
         entry-present (oneOf i v) k (present-one i v k ∙ t)
-        ∙ ap value (rw (truth.same-on k i t) (one-word i v h)) ∙ sym (choose-on (same k i) (value v) absent t)
-    go (off f) = entry-absent (oneOf i v) k (present-one i v k ∙ f) ∙ sym (choose-off (same k i) (value v) absent f)
+        ∙ ap Value (rw (truth.same-on k i t) (one-word i v h)) ∙ sym (choose-on (same k i) (Value v) Absent t)
+    go (off f) = entry-absent (oneOf i v) k (present-one i v k ∙ f) ∙ sym (choose-off (same k i) (Value v) Absent f)
 
 pub nothing-length : length (nothingOf .values) ≡ 16
 unfolding nothingOf
@@ -79,11 +85,16 @@ unfolding oneOf
 one-length i v = length-set (replicate 16 0) i v
 
 -- ---- filling from one row
-pub orElse-absent : (d e : Entry) → d ≡ absent → orElse d e ≡ e
+-- an absent entry takes the other
+unfoldable pub orElse : Entry → Entry → Entry
+orElse Absent e = e
+orElse (Value v) e = Value v
+
+pub orElse-absent : (d e : Entry) → d ≡ Absent → orElse d e ≡ e
 unfolding orElse
 orElse-absent d e h = rw h
 
-pub orElse-value : (d e : Entry) (v : ℕ) → d ≡ value v → orElse d e ≡ value v
+pub orElse-value : (d e : Entry) (v : ℕ) → d ≡ Value v → orElse d e ≡ Value v
 unfolding orElse
 orElse-value d e v h = rw h
 
@@ -100,10 +111,15 @@ pub fill-length : (g row : GlobalData) → length (fillOf g row .values) ≡ 16
 unfolding fillOf
 fill-length g row = length-each 16 (filledWord g row)
 
-pub entry-fill : (g row : GlobalData) (k : ℕ) → k < 16 → entryOf (fillOf g row) k ≡ orElse (entryOf g k) (entryOf row k)
+pub entry-fill : (g row : GlobalData) (k : ℕ) → k < 16
+    → entryOf (fillOf g row) k ≡ orElse (entryOf g k) (entryOf row k)
 unfolding entryOf fillOf orElse filledWord choose _&&_ _||_
 entry-fill g row k h =
-    rw (has-union (g .present) (row .present) k, getD-each 16 (filledWord g row) 0 k h, has-difference (row .present) (g .present) k)
+    rw (
+      has-union (g .present) (row .present) k,
+      getD-each 16 (filledWord g row) 0 k h,
+      has-difference (row .present) (g .present) k,
+    )
     (table (has (g .present) k) (has (row .present) k) (getD (g .values) k 0) (getD (row .values) k 0))
   where
     table : (a b : Bool) (x y : ℕ)
@@ -139,7 +155,8 @@ module _ (m : ℕ) (rows : ℕ → GlobalData) (g : GlobalData) where
   pub fillFrom-lt : (n p : ℕ) → g .present < 2 ^ n → ((q : ℕ) → q < p → has m q ≡ true → rows q .present < 2 ^ n)
       → fillFrom p m rows g .present < 2 ^ n
   fillFrom-lt n p hg =
-      fillFrom-ind (λ (q : ℕ) (f : GlobalData). ((r : ℕ) → r < q → has m r ≡ true → rows r .present < 2 ^ n) → f .present < 2 ^ n)
+      fillFrom-ind (λ (q : ℕ) (f : GlobalData).
+      ((r : ℕ) → r < q → has m r ≡ true → rows r .present < 2 ^ n) → f .present < 2 ^ n)
       (λ h. hg)
       (λ q ih e h. fill-lt n (fillFrom q m rows g) (rows q) (ih (λ r l. h r (omega arith))) (h q (omega arith) e))
       (λ q ih e h. ih (λ r l. h r (omega arith))) p
@@ -153,7 +170,8 @@ module _ (m : ℕ) (rows : ℕ → GlobalData) (g : GlobalData) where
   pub fill-stays : (p k : ℕ) → has (g .present) k ≡ true → has (fillFrom p m rows g .present) k ≡ true
   fill-stays p k h =
       fillFrom-ind (λ (q : ℕ) (f : GlobalData). has (f .present) k ≡ true) h
-      (λ q ih e. present-fill (fillFrom q m rows g) (rows q) k ∙ or-mk-l (has (fillFrom q m rows g .present) k) (has (rows q .present) k) ih)
+      (λ q ih e. present-fill (fillFrom q m rows g) (rows q) k
+      ∙ or-mk-l (has (fillFrom q m rows g .present) k) (has (rows q .present) k) ih)
       (λ q ih e. ih) p
 
   -- an entry that a member's row has is present
@@ -170,32 +188,34 @@ module _ (m : ℕ) (rows : ℕ → GlobalData) (g : GlobalData) where
       p l
 
   -- a value once there is kept
-  pub fill-later : (q p k v : ℕ) → k < 16 → q ≤ p → entryOf (fillFrom q m rows g) k ≡ value v
-      → entryOf (fillFrom p m rows g) k ≡ value v
+  pub fill-later : (q p k v : ℕ) → k < 16 → q ≤ p → entryOf (fillFrom q m rows g) k ≡ Value v
+      → entryOf (fillFrom p m rows g) k ≡ Value v
   fill-later q p k v b l h = go (p - q) p (omega arith)
     where
-      step : (p : ℕ) → Is (has m p) → entryOf (fillFrom p m rows g) k ≡ value v → entryOf (fillFrom (suc p) m rows g) k ≡ value v
+      step : (p : ℕ) → Is (has m p) → entryOf (fillFrom p m rows g) k ≡ Value v
+          → entryOf (fillFrom (suc p) m rows g) k ≡ Value v
       step p (on e) ih =
           ap (λ (f : GlobalData). entryOf f k) (fillFrom-on p e) ∙ entry-fill (fillFrom p m rows g) (rows p) k b
           ∙ orElse-value (entryOf (fillFrom p m rows g) k) (entryOf (rows p) k) v ih
       step p (off e) ih = ap (λ (f : GlobalData). entryOf f k) (fillFrom-off p e) ∙ ih
 
-      go : (d p : ℕ) → p ≡ q + d → entryOf (fillFrom p m rows g) k ≡ value v
+      go : (d p : ℕ) → p ≡ q + d → entryOf (fillFrom p m rows g) k ≡ Value v
       go zero p e = let e′ : p ≡ q = omega arith in rw e′ h
       go (suc d) p e =
           let e′ : p ≡ suc (q + d) = omega arith in
           rw e′ (step (q + d) (is (has m (q + d))) (go d (q + d) refl))
 
-  pub fill-keeps : (p k v : ℕ) → k < 16 → entryOf g k ≡ value v → entryOf (fillFrom p m rows g) k ≡ value v
+  pub fill-keeps : (p k v : ℕ) → k < 16 → entryOf g k ≡ Value v → entryOf (fillFrom p m rows g) k ≡ Value v
   unfolding fillFrom
   fill-keeps p k v b h = fill-later 0 p k v b (omega arith) h
 
   -- an entry is absent after filling just where it is absent in g and in each member's row
-  pub fill-absent : (p k : ℕ) → k < 16 → entryOf g k ≡ absent
-      → ((q : ℕ) → q < p → has m q ≡ true → entryOf (rows q) k ≡ absent) → entryOf (fillFrom p m rows g) k ≡ absent
+  pub fill-absent : (p k : ℕ) → k < 16 → entryOf g k ≡ Absent
+      → ((q : ℕ) → q < p → has m q ≡ true → entryOf (rows q) k ≡ Absent) → entryOf (fillFrom p m rows g) k ≡ Absent
   fill-absent p k b hg =
       fillFrom-ind
-      (λ (q : ℕ) (f : GlobalData). ((r : ℕ) → r < q → has m r ≡ true → entryOf (rows r) k ≡ absent) → entryOf f k ≡ absent)
+      (λ (q : ℕ) (f : GlobalData).
+      ((r : ℕ) → r < q → has m r ≡ true → entryOf (rows r) k ≡ Absent) → entryOf f k ≡ Absent)
       (λ h. hg)
       (λ q ih e h.
       entry-fill (fillFrom q m rows g) (rows q) k b
@@ -203,19 +223,21 @@ module _ (m : ℕ) (rows : ℕ → GlobalData) (g : GlobalData) where
       ∙ h q (omega arith) e)
       (λ q ih e h. ih (λ r l. h r (omega arith))) p
 
-  pub absent-own : (p k : ℕ) → entryOf (fillFrom p m rows g) k ≡ absent → entryOf g k ≡ absent
+  pub absent-own : (p k : ℕ) → entryOf (fillFrom p m rows g) k ≡ Absent → entryOf g k ≡ Absent
   absent-own p k h = go (is (has (g .present) k))
     where
-      go : Is (has (g .present) k) → entryOf g k ≡ absent
-      go (on t) = clash (has (fillFrom p m rows g .present) k) (fill-stays p k t) (absent-clear (fillFrom p m rows g) k h)
+      go : Is (has (g .present) k) → entryOf g k ≡ Absent
+      go (on t) =
+          clash (has (fillFrom p m rows g .present) k) (fill-stays p k t) (absent-clear (fillFrom p m rows g) k h)
       go (off f) = entry-absent g k f
 
-  pub absent-rows : (p k : ℕ) → entryOf (fillFrom p m rows g) k ≡ absent → (q : ℕ) → q < p → has m q ≡ true
-      → entryOf (rows q) k ≡ absent
+  pub absent-rows : (p k : ℕ) → entryOf (fillFrom p m rows g) k ≡ Absent → (q : ℕ) → q < p → has m q ≡ true
+      → entryOf (rows q) k ≡ Absent
   absent-rows p k h q l e = go (is (has (rows q .present) k))
     where
-      go : Is (has (rows q .present) k) → entryOf (rows q) k ≡ absent
-      go (on t) = clash (has (fillFrom p m rows g .present) k) (fill-has p q k l e t) (absent-clear (fillFrom p m rows g) k h)
+      go : Is (has (rows q .present) k) → entryOf (rows q) k ≡ Absent
+      go (on t) =
+          clash (has (fillFrom p m rows g .present) k) (fill-has p q k l e t) (absent-clear (fillFrom p m rows g) k h)
       go (off f) = entry-absent (rows q) k f
 
 -- the value v of entry k comes from the lowest-numbered member of m below p whose row has one, and g has none
@@ -223,21 +245,23 @@ pub record Lowest (m : ℕ) (rows : ℕ → GlobalData) (g : GlobalData) (p k v 
   pub who : ℕ
   pub low : who < p
   pub member : has m who ≡ true
-  pub shows : entryOf (rows who) k ≡ value v
-  pub lacks : entryOf g k ≡ absent
-  pub none-before : (q : ℕ) → q < who → has m q ≡ true → entryOf (rows q) k ≡ absent
+  pub shows : entryOf (rows who) k ≡ Value v
+  pub lacks : entryOf g k ≡ Absent
+  pub none-before : (q : ℕ) → q < who → has m q ≡ true → entryOf (rows q) k ≡ Absent
 
 module _ (m : ℕ) (rows : ℕ → GlobalData) (g : GlobalData) where
   -- where a value comes from
-  pub fill-comes : (p k v : ℕ) → k < 16 → entryOf (fillFrom p m rows g) k ≡ value v
-      → (entryOf g k ≡ value v) ⊎ Lowest m rows g p k v
+  pub fill-comes : (p k v : ℕ) → k < 16 → entryOf (fillFrom p m rows g) k ≡ Value v
+      → (entryOf g k ≡ Value v) ⊎ Lowest m rows g p k v
   fill-comes p k v b =
       fillFrom-ind m rows g
-      (λ (q : ℕ) (f : GlobalData). entryOf f k ≡ value v → (entryOf g k ≡ value v) ⊎ Lowest m rows g q k v)
-      inl (λ q ih e h. filled q e ih (sym (entry-fill (fillFrom q m rows g) (rows q) k b) ∙ h) (absent-or (entryOf (fillFrom q m rows g) k)))
+      (λ (q : ℕ) (f : GlobalData). entryOf f k ≡ Value v → (entryOf g k ≡ Value v) ⊎ Lowest m rows g q k v)
+      inl (λ q ih e h. filled q e ih (sym (entry-fill (fillFrom q m rows g) (rows q) k b) ∙ h)
+      (absent-or (entryOf (fillFrom q m rows g) k)))
       (λ q ih e h. more q (ih h)) p
     where
-      more : (q : ℕ) → (entryOf g k ≡ value v) ⊎ Lowest m rows g q k v → (entryOf g k ≡ value v) ⊎ Lowest m rows g (suc q) k v
+      more : (q : ℕ) → (entryOf g k ≡ Value v) ⊎ Lowest m rows g q k v
+          → (entryOf g k ≡ Value v) ⊎ Lowest m rows g (suc q) k v
       more q (inl h) = inl h
       more q (inr w) =
           inr record {
@@ -250,10 +274,10 @@ module _ (m : ℕ) (rows : ℕ → GlobalData) (g : GlobalData) where
           }
 
       filled : (q : ℕ) → has m q ≡ true
-          → (entryOf (fillFrom q m rows g) k ≡ value v → (entryOf g k ≡ value v) ⊎ Lowest m rows g q k v)
-          → orElse (entryOf (fillFrom q m rows g) k) (entryOf (rows q) k) ≡ value v
-          → (entryOf (fillFrom q m rows g) k ≡ absent) ⊎ ((w : ℕ) × (entryOf (fillFrom q m rows g) k ≡ value w))
-          → (entryOf g k ≡ value v) ⊎ Lowest m rows g (suc q) k v
+          → (entryOf (fillFrom q m rows g) k ≡ Value v → (entryOf g k ≡ Value v) ⊎ Lowest m rows g q k v)
+          → orElse (entryOf (fillFrom q m rows g) k) (entryOf (rows q) k) ≡ Value v
+          → (entryOf (fillFrom q m rows g) k ≡ Absent) ⊎ ((w : ℕ) × (entryOf (fillFrom q m rows g) k ≡ Value w))
+          → (entryOf g k ≡ Value v) ⊎ Lowest m rows g (suc q) k v
       filled q e ih h (inl a) =
           inr record {
             who = q;
@@ -264,10 +288,11 @@ module _ (m : ℕ) (rows : ℕ → GlobalData) (g : GlobalData) where
             none-before = absent-rows m rows g q k a;
           }
       filled q e ih h (inr w) =
-          more q (ih (w .1 ∙ sym (orElse-value (entryOf (fillFrom q m rows g) k) (entryOf (rows q) k) (w .0) (w .1)) ∙ h))
+          more q
+          (ih (w .1 ∙ sym (orElse-value (entryOf (fillFrom q m rows g) k) (entryOf (rows q) k) (w .0) (w .1)) ∙ h))
 
   -- and it is that member's value
-  pub fill-lowest : (p k v : ℕ) → k < 16 → Lowest m rows g p k v → entryOf (fillFrom p m rows g) k ≡ value v
+  pub fill-lowest : (p k v : ℕ) → k < 16 → Lowest m rows g p k v → entryOf (fillFrom p m rows g) k ≡ Value v
   fill-lowest p k v b w =
       let q = w .who in
       fill-later m rows g (suc q) p k v b (w .low)
@@ -280,30 +305,35 @@ module _ (m : ℕ) (rows : ℕ → GlobalData) (g : GlobalData) where
 -- ---- the same global data
 pub sameEntry-on : (d e : Entry) → sameEntry d e ≡ true → d ≡ e
 unfolding sameEntry
-sameEntry-on absent absent h = refl
-sameEntry-on absent (value w) h = clash false h refl
-sameEntry-on (value v) absent h = clash false h refl
-sameEntry-on (value v) (value w) h = ap value (truth.same-on v w h)
+sameEntry-on Absent Absent h = refl
+sameEntry-on Absent (Value w) h = clash false h refl
+sameEntry-on (Value v) Absent h = clash false h refl
+sameEntry-on (Value v) (Value w) h = ap Value (truth.same-on v w h)
 
 pub sameEntry-refl : (e : Entry) → sameEntry e e ≡ true
 unfolding sameEntry
-sameEntry-refl absent = refl
-sameEntry-refl (value v) = truth.same-refl v
+sameEntry-refl Absent = refl
+sameEntry-refl (Value v) = truth.same-refl v
 
 module _ (n : ℕ) (g h : GlobalData) where
   pub same-on : sameTo n g h ≡ true → (k : ℕ) → k < n → entryOf g k ≡ entryOf h k
   unfolding sameTo
-  same-on e k l = sameEntry-on (entryOf g k) (entryOf h k) (every-on n (λ k. sameEntry (entryOf g k) (entryOf h k)) e k l)
+  same-on e k l =
+      sameEntry-on (entryOf g k) (entryOf h k) (every-on n (λ k. sameEntry (entryOf g k) (entryOf h k)) e k l)
 
   pub same-mk : ((k : ℕ) → k < n → entryOf g k ≡ entryOf h k) → sameTo n g h ≡ true
   unfolding sameTo
-  same-mk f = every-mk n (λ k. sameEntry (entryOf g k) (entryOf h k)) (λ k l. rw (f k l) (sameEntry-refl (entryOf h k)))
+  same-mk f =
+      every-mk n (λ k. sameEntry (entryOf g k) (entryOf h k)) (λ k l. rw (f k l) (sameEntry-refl (entryOf h k)))
 
   pub same-not : sameTo n g h ≡ false → (k : ℕ) × (k < n) × (entryOf g k ≡ entryOf h k → ⊥)
   unfolding sameTo
   same-not e =
-      let w = every-not n (λ k. sameEntry (entryOf g k) (entryOf h k)) e in
-      (w .0, w .1, λ u. clash (sameEntry (entryOf g (w .0)) (entryOf h (w .0))) (rw u (sameEntry-refl (entryOf h (w .0)))) (w .2))
+      let w = every-not n (λ k. sameEntry (entryOf g k) (entryOf h k)) e in (
+        w .0,
+        w .1,
+        λ u. clash (sameEntry (entryOf g (w .0)) (entryOf h (w .0))) (rw u (sameEntry-refl (entryOf h (w .0)))) (w .2),
+      )
 
 pub sameTo-refl : (n : ℕ) (g : GlobalData) → sameTo n g g ≡ true
 sameTo-refl n g = same-mk n g g (λ k l. refl)

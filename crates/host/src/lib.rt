@@ -1,5 +1,6 @@
-// The calls as a host makes them, in the forms that document 01 names: run hands back the part of the lent schedule that it has not
-// taken, and the call for one record updates the tally that the host lends. Each is thin, over functions by value.
+// The calls as a host makes them, in the forms that document 01 names: run hands back the
+// part of the lent schedule that it has not taken, and the call for one record updates the tally that the host lends.
+// Each is thin, over functions by value.
 use bench::Bench;
 use bench::Cause;
 use bench::Counters;

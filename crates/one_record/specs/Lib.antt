@@ -1,1 +1,2 @@
+pub mod OneRecord
 pub mod StepLaws

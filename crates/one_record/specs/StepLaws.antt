@@ -1,4 +1,5 @@
--- The call for one record is a run of it alone, or of nothing, with a budget of one; and the tally by what the answer says and the record's kind.
+-- The call for one record is a run of it alone, or of nothing, with a budget of one;
+-- and the tally by what the answer says and the record's kind.
 -- An accepted record has the kind of its event, so an accepted one is a crash when its first byte is 5.
 use mathlib.Core.Path.{_≡_, refl, sym, ap, _∙_}
 use mathlib.Core.Logic.{_≢_, _⊎_, inl, inr, ⊎-elim}
@@ -8,7 +9,8 @@ use Prim.Native.Nat.{ℕ, zero, suc, _-_, _≤_, _<_}
 use native.Mathlib.Omega.{arith}
 use lib.ListN.{length, getD, take, drop, length-drop}
 use lib.Seq.{take-all}
-use Rattle.sets.specs.Truth.{_&&_, same, choose, Is, on, off, is, choose-on, choose-off, and-off-l, same-on, same-mk, same-off, eq-or}
+use Rattle.sets.specs.Truth.{_&&_, same, choose}
+use Rattle.sets.specs.TruthLaws.{Is, on, off, is, choose-on, choose-off, and-off-l, same-on, same-mk, same-off, eq-or}
 use Rattle.bench.specs.declared.Bench.{Bench}
 use Rattle.bench.specs.declared.Answer.{Answer}
 use Rattle.bench.specs.declared.Answer.the-variants.{Accepted, Refused}
@@ -23,30 +25,20 @@ use Rattle.bench.specs.declared.Refusal.{Refusal}
 use Rattle.bench.specs.Sound.{soundOf}
 use Rattle.bench.specs.Record.{eventOf, decodeOf}
 use Rattle.bench.specs.RecordLaws.{decode-from, decode-size}
-use Rattle.bench.specs.Refuse.{refusal}
+use Rattle.bench.specs.Refuse.{refusal, isCrash}
 use Rattle.bench.specs.RefuseLaws.{refusal-damaged, refusal-unread, accepted}
 use Rattle.bench.specs.Effect.{effectOf}
-use Rattle.bench.specs.Calls.{refused, answerOf, after, stepOf, more, isCrash, stops, tallyOf, endedOf, runFrom, runOf}
+use Rattle.bench.specs.Calls.{refused, answerOf, afterRecord, stepOf, more}
+use Rattle.bench.specs.Calls.{tallied, crashIn, tallyOf, endedOf, runFrom, runOf}
+use Rattle.one_record.specs.OneRecord.{recordIn, answerTo, steppedBy, isAccepted, crashByte}
 use Rattle.bench.specs.RunLaws.{run-empty, run-refused, run-accepted, run-damaged, run-sound}
 
 -- ---- one record
--- its 8 bytes; of any other length there is none
-unfoldable pub recordIn : List ℕ → List ℕ
-recordIn l = choose (same (length l) 8) l []
-
--- the answer by the end of a run of it: nothing accepted at the end of the schedule, and there was none
-unfoldable pub answerTo : ℕ → Cause → Answer
-answerTo accepted Empty = choose (same accepted 0) (Refused (refused 3)) Accepted
-answerTo accepted Spent = Accepted
-answerTo accepted (RefusedRun r) = Refused r
-
-unfoldable pub steppedBy : Ended → Stepped
-steppedBy e = record { answer = answerTo (e .accepted) (e .cause); bench = e .bench }
-
 module _ (s : Bench) (l : List ℕ) where
   -- a refused record, by its number
-  pub step-refused : (k : ℕ) → refusal s l ≡ k → k ≢ 0 → record { answer = Refused (refused k); bench = s } ≡ stepOf s l
-  unfolding stepOf answerOf after
+  pub step-refused : (k : ℕ) → refusal s l ≡ k → k ≢ 0
+      → record { answer = Refused (refused k); bench = s } ≡ stepOf s l
+  unfolding stepOf answerOf afterRecord
   step-refused k e z =
       let f = same-off k 0 z in
       rw (e, choose-off (same k 0) Accepted (Refused (refused k)) f, choose-off (same k 0) (effectOf s l) s f)
@@ -60,7 +52,7 @@ module _ (s : Bench) (l : List ℕ) where
       step-refused 3 (refusal-unread s l h r (decode-size (s .n) (s .t) l n)) (omega arith)
 
   step-accepted : refusal s l ≡ 0 → record { answer = Accepted; bench = effectOf s l } ≡ stepOf s l
-  unfolding stepOf answerOf after
+  unfolding stepOf answerOf afterRecord
   step-accepted e =
       let o = same-mk 0 0 refl in
       rw (e, choose-on (same 0 0) Accepted (Refused (refused 0)) o, choose-on (same 0 0) (effectOf s l) s o)
@@ -84,50 +76,40 @@ module _ (s : Bench) (l : List ℕ) where
 
         taken : refusal s (take 8 l) ≡ 0 → steppedBy (runFrom 1 l s 0 0) ≡ stepOf s l
         taken z =
-            rw (run-accepted l s 0 0 1 some (omega arith) z, run-empty (drop 8 l) (effectOf s (take 8 l)) 1 8 0 (omega (arith, length-drop 8 l)), whole)
-            (rw (choose-off (same 1 0) (Refused (refused 3)) Accepted (same-off 1 0 (omega arith))) (step-accepted (rw whole at z)))
+            rw (
+              run-accepted l s 0 0 1 some (omega arith) z,
+              run-empty (drop 8 l) (effectOf s (take 8 l)) 1 8 0 (omega (arith, length-drop 8 l)),
+              whole,
+            )
+            (rw (choose-off (same 1 0) (Refused (refused 3)) Accepted (same-off 1 0 (omega arith)))
+            (step-accepted (rw whole at z)))
 
         turned : refusal s (take 8 l) ≢ 0 → steppedBy (runFrom 1 l s 0 0) ≡ stepOf s l
-        turned z = rw (run-refused l s 0 0 1 some (omega arith) z, whole) (step-refused (refusal s l) refl (rw whole at z))
+        turned z =
+            rw (run-refused l s 0 0 1 some (omega arith) z, whole) (step-refused (refusal s l) refl (rw whole at z))
 
   -- any other number of bytes
   none : length l ≢ 8 → soundOf s ≡ true → steppedBy (runFrom 1 [] s 0 0) ≡ stepOf s l
   unfolding steppedBy answerTo endedOf
-  none n h = rw (run-empty [] s 0 0 1 refl, choose-on (same 0 0) (Refused (refused 3)) Accepted (same-mk 0 0 refl)) (step-size h n)
+  none n h =
+      rw (run-empty [] s 0 0 1 refl, choose-on (same 0 0) (Refused (refused 3)) Accepted (same-mk 0 0 refl))
+      (step-size h n)
 
   pub step-run : steppedBy (runOf 1 (recordIn l) s) ≡ stepOf s l
   unfolding recordIn
   step-run = go (is (soundOf s)) (eq-or (length l) 8)
     where
-      go : Is (soundOf s) → (length l ≡ 8) ⊎ (length l ≢ 8) → steppedBy (runOf 1 (choose (same (length l) 8) l []) s) ≡ stepOf s l
+      go : Is (soundOf s) → (length l ≡ 8) ⊎ (length l ≢ 8)
+          → steppedBy (runOf 1 (choose (same (length l) 8) l []) s) ≡ stepOf s l
       go (off d) k = damaged _ d
       go (on h) (inl n) = rw (choose-on (same (length l) 8) l [] (same-mk _ _ n), run-sound 1 l s h) (one n h)
       go (on h) (inr n) = rw (choose-off (same (length l) 8) l [] (same-off _ _ n), run-sound 1 [] s h) (none n h)
 
 -- ---- the tally
-unfoldable pub isAccepted : Answer → Bool
-isAccepted Accepted = true
-isAccepted (Refused r) = false
-
--- the first byte is the kind of a crash
-unfoldable pub crashByte : List ℕ → Bool
-crashByte l = same (getD l 0 0) 5
-
 pub no-byte : (l : List ℕ) → length l ≤ 0 → crashByte l ≡ false
 unfolding crashByte same
 no-byte [] h = refl
 no-byte (x ∷ l) h = absurd (omega arith)
-
-unfoldable pub tallied : Bool → Bool → Counters → Counters
-tallied accepted crash c =
-    record {
-      accepted = more accepted (c .accepted);
-      refused = more (not accepted) (c .refused);
-      crashes = more (accepted && crash) (c .crashes);
-    }
-
-unfoldable pub countedOf : Bench → List ℕ → Counters → Counted
-countedOf s l c = record { stepped = stepOf s l; counters = tallyOf s l c }
 
 answer-accepted : (k : ℕ) → isAccepted (answerOf k) ≡ same k 0
 unfolding isAccepted answerOf
@@ -137,28 +119,31 @@ answer-accepted k = go (is (same k 0))
     go (on e) = rw (choose-on (same k 0) Accepted (Refused (refused k)) e) (sym e)
     go (off e) = rw (choose-off (same k 0) Accepted (Refused (refused k)) e) (sym e)
 
-past-crash : (k a b r v : ℕ) → 5 < k → isCrash (Got (eventOf k a b r v)) ≡ same k 5
-unfolding isCrash eventOf choose
+past-crash : (k a b r v : ℕ) → 5 < k → crashIn (Got (eventOf k a b r v)) ≡ same k 5
+unfolding crashIn isCrash eventOf choose
 past-crash k a b r v h =
     let no : (i : ℕ) → i ≤ 5 → same k i ≡ false = λ i l. same-off k i (λ e. omega (arith, e)) in
     rw (no 1 (omega arith), no 2 (omega arith), no 3 (omega arith), no 4 (omega arith), no 5 (omega arith))
 
-crash-kind : (k a b r v : ℕ) → isCrash (Got (eventOf k a b r v)) ≡ same k 5
-unfolding isCrash eventOf same choose
+crash-kind : (k a b r v : ℕ) → crashIn (Got (eventOf k a b r v)) ≡ same k 5
+unfolding crashIn isCrash eventOf same choose
 crash-kind zero a b r v = refl
 crash-kind (suc zero) a b r v = refl
 crash-kind (suc (suc zero)) a b r v = refl
 crash-kind (suc (suc (suc zero))) a b r v = refl
 crash-kind (suc (suc (suc (suc zero)))) a b r v = refl
 crash-kind (suc (suc (suc (suc (suc zero))))) a b r v = refl
-crash-kind (suc (suc (suc (suc (suc (suc k)))))) a b r v = past-crash (suc (suc (suc (suc (suc (suc k)))))) a b r v (omega arith)
+crash-kind (suc (suc (suc (suc (suc (suc k)))))) a b r v =
+    past-crash (suc (suc (suc (suc (suc (suc k)))))) a b r v (omega arith)
 
 module _ (s : Bench) (l : List ℕ) where
-  crash-stops : stops s l ≡ (same (refusal s l) 0 && crashByte l)
-  unfolding stops crashByte
-  crash-stops = go (is (same (refusal s l) 0))
+  crash-byte : (same (refusal s l) 0 && crashIn (decodeOf (s .n) (s .t) l)) ≡ (same (refusal s l) 0 && crashByte l)
+  unfolding crashByte
+  crash-byte = go (is (same (refusal s l) 0))
     where
-      go : Is (same (refusal s l) 0) → (same (refusal s l) 0 && isCrash (decodeOf (s .n) (s .t) l)) ≡ (same (refusal s l) 0 && same (getD l 0 0) 5)
+      go : Is (same (refusal s l) 0)
+          → (same (refusal s l) 0 && crashIn (decodeOf (s .n) (s .t) l))
+          ≡ (same (refusal s l) 0 && same (getD l 0 0) 5)
       go (on e) =
           let w = accepted s l (same-on (refusal s l) 0 e) in
           let f = decode-from (s .n) (s .t) l (w .event) (w .decoded) in
@@ -167,4 +152,4 @@ module _ (s : Bench) (l : List ℕ) where
 
   pub tally-step : (c : Counters) → tallied (isAccepted (stepOf s l .answer)) (crashByte l) c ≡ tallyOf s l c
   unfolding tallied tallyOf stepOf
-  tally-step c = rw (answer-accepted (refusal s l), crash-stops)
+  tally-step c = rw (answer-accepted (refusal s l), crash-byte)

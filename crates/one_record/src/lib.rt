@@ -1,5 +1,5 @@
-// The call for one record and the host's tally, by value, and the part of a schedule that is left. The forms that lend a struct or hand
-// back the rest of the schedule are in `host`.
+// The call for one record and the host's tally, by value, and the part of a schedule that is left.
+// The forms that lend a struct or hand back the rest of the schedule are in `host`.
 use bench::Answer;
 use bench::Bench;
 use bench::Cause;
@@ -9,8 +9,8 @@ use bench::Stepped;
 use run::run_bytes;
 ghost use mathlib.Core.Path.{_≡_};
 ghost use lib.ListN.{drop};
-ghost use Rattle.bench.specs.Calls.{more, stepOf};
-ghost use Rattle.one_record.specs.StepLaws.{answerTo, recordIn, isAccepted, crashByte, tallied, countedOf};
+ghost use Rattle.bench.specs.Calls.{more, stepOf, tallied};
+ghost use Rattle.one_record.specs.OneRecord.{answerTo, recordIn, isAccepted, crashByte, countedOf};
 
 // What the call for one record gives, with the tally after it.
 pub struct Counted {

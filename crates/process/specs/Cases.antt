@@ -1,16 +1,19 @@
--- Closes of explicit processes, as one table, and one theorem that the definitions give each of them its end: the checker computes it.
+-- Closes of explicit processes, as one table, and one theorem that the definitions give each of them
+-- its end: the checker computes it.
 use mathlib.Core.Path.{_≡_, refl}
 use mathlib.Core.List.{List, [], _∷_}
 use mathlib.Core.Bool.{Bool, true, false}
 use Prim.Native.Nat.{ℕ, zero, suc}
-use Rattle.sets.specs.Each.{each}
-use Rattle.sets.specs.Every.{every}
+use Rattle.sets.specs.Lists.{each, every}
 use Rattle.sets.specs.Set.{has, insertOf, removeOf, unionOf, intersectionOf, differenceOf, allOf}
 use Rattle.sets.specs.Truth.{_&&_, _||_, same, choose}
 use Rattle.global_data.specs.declared.GlobalData.{GlobalData}
-use Rattle.global_data.specs.GlobalData.{Entry, absent, value, entryOf, sameEntry, rowsOf, filledWord, fillOf, fillFrom, sameTo, allSame}
+use Rattle.global_data.specs.declared.Entry.{Entry}
+use Rattle.global_data.specs.declared.Entry.the-variants.{Absent, Value}
+use Rattle.global_data.specs.GlobalData.{entryOf, sameEntry, rowsOf, filledWord, fillOf, fillFrom, sameTo, allSame}
 use Rattle.process.specs.declared.Process.{Process}
-use Rattle.process.specs.Steps.{hasDecided, openOf, arrivedOf, nextOf, peersOf, filledOf, agreedOf, decidesOf, owedOf, decideOf, advanceOf, closeOf}
+use Rattle.process.specs.Steps.{hasDecided, openRoundOf, arrivedOf, nextOf, peersOf, filledOf}
+use Rattle.process.specs.Steps.{agreedOf, decidesOf, owedOf, decideOf, advanceOf, closeOf}
 
 -- a process before a close: sets are bits, and `arrived` is whose estimates of this round have arrived
 pub record Start : Type 0 where
@@ -30,6 +33,13 @@ pub record End : Type 0 where
   pub outbox : ℕ
   pub estimate : List Entry
 
+-- round, sets and estimate before, and after
+abbrev from : ℕ → ℕ → ℕ → ℕ → ℕ → List Entry → Start
+from r p c s m l = record { round = r; previous = p; current = c; suspected = s; arrived = m; estimate = l }
+
+abbrev to : Bool → ℕ → ℕ → ℕ → ℕ → List Entry → End
+to d r p c o l = record { decided = d; round = r; previous = p; current = c; outbox = o; estimate = l }
+
 -- process a, from 0, closes its round; `rows` is what each process sent in it
 pub record Case : Type 0 where
   pub n : ℕ
@@ -42,8 +52,10 @@ pub record Case : Type 0 where
 -- global data of the entries, from entry k
 dataFrom : ℕ → List Entry → GlobalData
 dataFrom k [] = record { present = 0; values = [] }
-dataFrom k (absent ∷ l) = let g = dataFrom (suc k) l in record { present = g .present; values = 0 ∷ g .values }
-dataFrom k (value v ∷ l) = let g = dataFrom (suc k) l in record { present = insertOf (g .present) k; values = v ∷ g .values }
+dataFrom k (Absent ∷ l) = let g = dataFrom (suc k) l in record { present = g .present; values = 0 ∷ g .values }
+dataFrom k (Value v ∷ l) =
+    let g = dataFrom (suc k) l in
+    record { present = insertOf (g .present) k; values = v ∷ g .values }
 
 rowsFrom : List (List Entry) → List GlobalData
 rowsFrom [] = []
@@ -102,9 +114,9 @@ agreement =
       n = 2;
       t = 1;
       a = 0;
-      start = record { round = 1; previous = 3; current = 3; suspected = 0; arrived = 2; estimate = value 5 ∷ value 6 ∷ [] };
-      rows = [] ∷ (value 5 ∷ value 6 ∷ []) ∷ [];
-      end = record { decided = true; round = 1; previous = 3; current = 3; outbox = 2; estimate = value 5 ∷ value 6 ∷ [] };
+      start = from 1 3 3 0 2 (Value 5 ∷ Value 6 ∷ []);
+      rows = [] ∷ (Value 5 ∷ Value 6 ∷ []) ∷ [];
+      end = to true 1 3 3 2 (Value 5 ∷ Value 6 ∷ []);
     }
 
 -- the sets agree and the arrived row is the new estimate, but its own old one was another: no decision
@@ -114,9 +126,9 @@ ownOld =
       n = 2;
       t = 1;
       a = 0;
-      start = record { round = 1; previous = 3; current = 3; suspected = 0; arrived = 2; estimate = value 5 ∷ absent ∷ [] };
-      rows = [] ∷ (value 5 ∷ value 6 ∷ []) ∷ [];
-      end = record { decided = false; round = 2; previous = 3; current = 3; outbox = 2; estimate = value 5 ∷ value 6 ∷ [] };
+      start = from 1 3 3 0 2 (Value 5 ∷ Absent ∷ []);
+      rows = [] ∷ (Value 5 ∷ Value 6 ∷ []) ∷ [];
+      end = to false 2 3 3 2 (Value 5 ∷ Value 6 ∷ []);
     }
 
 -- an estimate arrived and its sender is suspected since: it is in the next set, and fills
@@ -126,9 +138,9 @@ suspectedSender =
       n = 2;
       t = 1;
       a = 0;
-      start = record { round = 1; previous = 3; current = 3; suspected = 2; arrived = 2; estimate = value 5 ∷ absent ∷ [] };
-      rows = [] ∷ (absent ∷ value 6 ∷ []) ∷ [];
-      end = record { decided = false; round = 2; previous = 3; current = 3; outbox = 2; estimate = value 5 ∷ value 6 ∷ [] };
+      start = from 1 3 3 2 2 (Value 5 ∷ Absent ∷ []);
+      rows = [] ∷ (Absent ∷ Value 6 ∷ []) ∷ [];
+      end = to false 2 3 3 2 (Value 5 ∷ Value 6 ∷ []);
     }
 
 -- equal estimates, with previous and next differing: no decision
@@ -138,9 +150,9 @@ setsDiffer =
       n = 3;
       t = 2;
       a = 0;
-      start = record { round = 2; previous = 7; current = 3; suspected = 4; arrived = 2; estimate = value 5 ∷ value 6 ∷ absent ∷ [] };
-      rows = [] ∷ (value 5 ∷ value 6 ∷ absent ∷ []) ∷ [] ∷ [];
-      end = record { decided = false; round = 3; previous = 3; current = 3; outbox = 2; estimate = value 5 ∷ value 6 ∷ absent ∷ [] };
+      start = from 2 7 3 4 2 (Value 5 ∷ Value 6 ∷ Absent ∷ []);
+      rows = [] ∷ (Value 5 ∷ Value 6 ∷ Absent ∷ []) ∷ [] ∷ [];
+      end = to false 3 3 3 2 (Value 5 ∷ Value 6 ∷ Absent ∷ []);
     }
 
 -- the value 0 in one row and absent in another: these differ, so no decision, and the entry is 0 and present
@@ -150,9 +162,9 @@ zeroOrAbsent own =
       n = 3;
       t = 2;
       a = 0;
-      start = record { round = 1; previous = 7; current = 7; suspected = 0; arrived = 6; estimate = own };
-      rows = [] ∷ (value 5 ∷ value 0 ∷ value 7 ∷ []) ∷ (value 5 ∷ absent ∷ value 7 ∷ []) ∷ [];
-      end = record { decided = false; round = 2; previous = 7; current = 7; outbox = 6; estimate = value 5 ∷ value 0 ∷ value 7 ∷ [] };
+      start = from 1 7 7 0 6 own;
+      rows = [] ∷ (Value 5 ∷ Value 0 ∷ Value 7 ∷ []) ∷ (Value 5 ∷ Absent ∷ Value 7 ∷ []) ∷ [];
+      end = to false 2 7 7 6 (Value 5 ∷ Value 0 ∷ Value 7 ∷ []);
     }
 
 -- round t + 1 decides, though sets and estimates differ; the decision is not owed to a suspected process
@@ -162,9 +174,9 @@ lastRound =
       n = 3;
       t = 1;
       a = 0;
-      start = record { round = 2; previous = 7; current = 3; suspected = 4; arrived = 2; estimate = value 5 ∷ absent ∷ absent ∷ [] };
-      rows = [] ∷ (absent ∷ value 6 ∷ absent ∷ []) ∷ [] ∷ [];
-      end = record { decided = true; round = 2; previous = 7; current = 3; outbox = 2; estimate = value 5 ∷ value 6 ∷ absent ∷ [] };
+      start = from 2 7 3 4 2 (Value 5 ∷ Absent ∷ Absent ∷ []);
+      rows = [] ∷ (Absent ∷ Value 6 ∷ Absent ∷ []) ∷ [] ∷ [];
+      end = to true 2 7 3 2 (Value 5 ∷ Value 6 ∷ Absent ∷ []);
     }
 
 -- two rows show an entry that it lacks: the lowest-numbered one whose estimate arrived fills it
@@ -174,20 +186,21 @@ lowest arrived next v =
       n = 3;
       t = 2;
       a = 2;
-      start = record { round = 1; previous = 7; current = 7; suspected = 0; arrived = arrived; estimate = absent ∷ absent ∷ value 7 ∷ [] };
-      rows = (value 8 ∷ absent ∷ absent ∷ []) ∷ (value 9 ∷ absent ∷ absent ∷ []) ∷ [] ∷ [];
-      end = record { decided = false; round = 2; previous = 7; current = insertOf next 2; outbox = next; estimate = value v ∷ absent ∷ value 7 ∷ [] };
+      start = from 1 7 7 0 arrived (Absent ∷ Absent ∷ Value 7 ∷ []);
+      rows = (Value 8 ∷ Absent ∷ Absent ∷ []) ∷ (Value 9 ∷ Absent ∷ Absent ∷ []) ∷ [] ∷ [];
+      end = to false 2 7 (insertOf next 2) next (Value v ∷ Absent ∷ Value 7 ∷ []);
     }
 
 pub table : List Case
 table =
-    agreement ∷ ownOld ∷ suspectedSender ∷ setsDiffer ∷ zeroOrAbsent (value 5 ∷ value 0 ∷ value 7 ∷ [])
-    ∷ zeroOrAbsent (value 5 ∷ absent ∷ value 7 ∷ []) ∷ lastRound ∷ lowest 3 3 8 ∷ lowest 2 2 9 ∷ []
+    agreement ∷ ownOld ∷ suspectedSender ∷ setsDiffer ∷ zeroOrAbsent (Value 5 ∷ Value 0 ∷ Value 7 ∷ [])
+    ∷ zeroOrAbsent (Value 5 ∷ Absent ∷ Value 7 ∷ []) ∷ lastRound ∷ lowest 3 3 8 ∷ lowest 2 2 9 ∷ []
 
 -- every case passes: the checker computes it from the definitions
 pub cases : allPass table ≡ true
-unfolding dataFrom rowsFrom word pred processOf sameBool shows passes allPass agreement ownOld suspectedSender setsDiffer zeroOrAbsent lastRound lowest table
+unfolding dataFrom rowsFrom word pred processOf sameBool shows passes allPass agreement ownOld suspectedSender
+    setsDiffer zeroOrAbsent lastRound lowest table
     has insertOf removeOf unionOf intersectionOf differenceOf allOf _&&_ _||_ same choose every each
     entryOf sameEntry filledWord fillOf fillFrom sameTo allSame
-    hasDecided openOf arrivedOf nextOf peersOf filledOf agreedOf decidesOf owedOf decideOf advanceOf closeOf
+    hasDecided openRoundOf arrivedOf nextOf peersOf filledOf agreedOf decidesOf owedOf decideOf advanceOf closeOf
 cases = refl

@@ -1,5 +1,6 @@
--- Laws of the steps, which proofs cite instead of the definitions' text: a step by cases, who is in which set, when a close decides,
--- and what each step keeps (every set within the n processes, the round at most t + 1, the length of `received`).
+-- Laws of the steps, which proofs cite instead of the definitions' text: a step by cases,
+-- who is in which set, when a close decides, and what each step keeps (every set within the n processes,
+-- the round at most t + 1, the length of `received`).
 use mathlib.Core.Path.{_≡_, refl, sym, _∙_}
 use mathlib.Core.Logic.{_≢_, _⊎_, inl, inr, ⊎-elim}
 use mathlib.Core.List.{List, [], _∷_}
@@ -10,40 +11,30 @@ use lib.ListN.{length, getD, set, replicate, length-set}
 use lib.Pow.{pow-pos}
 use lib.Seq.{getD-set-same, getD-set-other}
 use Rattle.sets.specs.Set.{has, insertOf, removeOf, allOf}
-use Rattle.sets.specs.Each.{each, each-getD}
-use Rattle.sets.specs.Truth.{_&&_, _||_, same, below, choose, Is, on, off, is, and-l, and-r, and-mk, and-cases, and-on-l, or-mk-l, or-mk-r, or-off-l, or-none-l, or-none-r, not-on, not-off, off-by, clash, same-on, same-mk, same-off, same-not, eq-or, choose-on, choose-off}
-use Rattle.sets.specs.Laws.{has-insert, has-remove, has-union, has-intersection, has-difference, has-all, nothing-in, empty-by, all-lt, insert-lt, remove-lt, difference-lt, intersection-lt}
+use Rattle.sets.specs.Lists.{each}
+use Rattle.sets.specs.EachLaws.{each-getD}
+use Rattle.sets.specs.Truth.{_&&_, _||_, same, below, choose}
+use Rattle.sets.specs.TruthLaws.{Is, on, off, is, and-l, and-r, and-mk, and-cases, and-on-l, or-mk-l}
+use Rattle.sets.specs.TruthLaws.{or-mk-r, or-off-l, or-none-l, or-none-r, not-on, not-off, off-by, clash}
+use Rattle.sets.specs.TruthLaws.{same-on, same-mk, same-off, same-not, eq-or, choose-on, choose-off}
+use Rattle.sets.specs.Laws.{has-insert, has-remove, has-union, has-intersection, has-difference, has-all}
+use Rattle.sets.specs.Laws.{nothing-in, empty-by, all-lt, insert-lt, remove-lt, difference-lt, intersection-lt}
 use Rattle.global_data.specs.declared.GlobalData.{GlobalData}
 use Rattle.global_data.specs.GlobalData.{nothingOf, oneOf, sameTo, allSame}
 use Rattle.global_data.specs.Laws.{fillFrom-lt}
 use Rattle.process.specs.declared.Process.{Process}
-use Rattle.process.specs.Steps.{idleOf, hasDecided, takesPart, openOf, startOf, keeps, receiveOf, arrivedOf, dueOf, nextOf, peersOf, filledOf, agreedOf, decidesOf, owedOf, decideOf, advanceOf, closeOf, adoptOf, sendOf, suspectOf}
+use Rattle.process.specs.Fields.{withReceived}
+use Rattle.process.specs.Steps.{idleOf, hasDecided, takesPart, openRoundOf, startOf, keeps, receiveOf}
+use Rattle.process.specs.Steps.{arrivedOf, dueOf, nextOf, peersOf, filledOf, agreedOf, decidesOf}
+use Rattle.process.specs.Steps.{owedOf, decideOf, advanceOf, closeOf, adoptOf, sendOf, suspectOf}
 
 -- ---- a step by cases
 -- what holds of both holds of the chosen one
-choose-by : {A : Type 0} (P : A → Type 0) (b : Bool) (x y : A) → (b ≡ true → P x) → (b ≡ false → P y) → P (choose b x y)
+choose-by : {A : Type 0} (P : A → Type 0) (b : Bool) (x y : A) → (b ≡ true → P x) → (b ≡ false → P y)
+    → P (choose b x y)
 unfolding choose
 choose-by P true x y f g = f refl
 choose-by P false x y f g = g refl
-
--- step 5 where it does not decide, with the estimate g filled already
-unfoldable pub advanceTo : ℕ → GlobalData → Process → Process
-advanceTo a g p =
-    openOf a
-    (record {
-      round = p .round;
-      decided = p .decided;
-      previous = p .current;
-      current = nextOf a p;
-      suspected = p .suspected;
-      outbox = p .outbox;
-      estimate = g;
-      received = p .received;
-    })
-
-pub advance-filled : (a : ℕ) (rows : ℕ → GlobalData) (p : Process) → advanceOf a rows p ≡ advanceTo a (filledOf a rows p) p
-unfolding advanceOf advanceTo
-advance-filled a rows p = refl
 
 -- the sets of l, with y in the one at `at`, each written anew
 unfoldable pub wordsWith : List ℕ → ℕ → ℕ → List ℕ
@@ -54,7 +45,8 @@ module _ (l : List ℕ) (at y : ℕ) (e : length l ≡ 16) where
   pub words-set : at < 16 → wordsWith l at y ≡ set l at (insertOf (getD l at 0) y)
   unfolding wordsWith
   words-set h =
-      sym (each-getD 16 (λ j. choose (same at j) (insertOf (getD l j 0) y) (getD l j 0)) 0 (set l at (insertOf (getD l at 0) y))
+      sym (each-getD 16 (λ j. choose (same at j) (insertOf (getD l j 0) y) (getD l j 0)) 0
+      (set l at (insertOf (getD l at 0) y))
       (length-set l at (insertOf (getD l at 0) y) ∙ e) (λ k b. go k (eq-or at k)))
     where
       go : (k : ℕ) → (at ≡ k) ⊎ (at ≢ k)
@@ -71,29 +63,17 @@ module _ (l : List ℕ) (at y : ℕ) (e : length l ≡ 16) where
   unfolding wordsWith
   words-kept h =
       sym (each-getD 16 (λ j. choose (same at j) (insertOf (getD l j 0) y) (getD l j 0)) 0 l e
-      (λ k b. sym (choose-off (same at k) (insertOf (getD l k 0) y) (getD l k 0) (same-off at k (λ p. omega (arith, p))))))
-
--- p with other sets
-abbrev pub withReceived : Process → List ℕ → Process
-withReceived p l =
-    record {
-      round = p .round;
-      decided = p .decided;
-      previous = p .previous;
-      current = p .current;
-      suspected = p .suspected;
-      outbox = p .outbox;
-      estimate = p .estimate;
-      received = l;
-    }
+      (λ k b.
+      sym (choose-off (same at k) (insertOf (getD l k 0) y) (getD l k 0) (same-off at k (λ p. omega (arith, p))))))
 
 -- step 3 with every set written anew; `at` is past the last where the estimate is not kept
-pub receive-words : (y r at : ℕ) (p : Process) → length (p .received) ≡ 16 → r ≤ 16 → 1 ≤ r → at ≡ choose (keeps p y r) (r - 1) 16
-    → withReceived p (wordsWith (p .received) at y) ≡ receiveOf y r p
+pub receive-words : (y r at : ℕ) (p : Process) → length (p .received) ≡ 16 → r ≤ 16 → 1 ≤ r
+    → at ≡ choose (keeps p y r) (r - 1) 16
+    → withReceived (wordsWith (p .received) at y) p ≡ receiveOf y r p
 unfolding receiveOf
 receive-words y r at p e h l a = go (is (keeps p y r))
   where
-    go : Is (keeps p y r) → withReceived p (wordsWith (p .received) at y) ≡ receiveOf y r p
+    go : Is (keeps p y r) → withReceived (wordsWith (p .received) at y) p ≡ receiveOf y r p
     go (on k) =
         let b : at ≡ r - 1 = a ∙ choose-on (keeps p y r) (r - 1) 16 k in
         rw (choose-on (keeps p y r) _ p k, words-set (p .received) at y e (omega arith), b)
@@ -106,12 +86,13 @@ module _ (n t a : ℕ) (rows : ℕ → GlobalData) (p : Process) where
   unfolding closeOf
   close-on = choose-on _ _ _
 
-  pub close-off : decidesOf n t a rows p ≡ false → closeOf n t a rows p ≡ advanceOf a rows p
+  pub close-off : decidesOf n t a rows p ≡ false → closeOf n t a rows p ≡ advanceOf a (filledOf a rows p) p
   unfolding closeOf
   close-off = choose-off _ _ _
 
-  close-by : (P : Process → Type 0) → (decidesOf n t a rows p ≡ true → P (decideOf (filledOf a rows p) (owedOf n a p) p))
-      → (decidesOf n t a rows p ≡ false → P (advanceOf a rows p)) → P (closeOf n t a rows p)
+  close-by : (P : Process → Type 0)
+      → (decidesOf n t a rows p ≡ true → P (decideOf (filledOf a rows p) (owedOf n a p) p))
+      → (decidesOf n t a rows p ≡ false → P (advanceOf a (filledOf a rows p) p)) → P (closeOf n t a rows p)
   unfolding closeOf
   close-by P = choose-by P _ _ _
 
@@ -134,17 +115,17 @@ module _ (p : Process) where
   unfolding hasDecided decideOf same
   decide-decided g m = refl
 
-  pub open-decided : (a : ℕ) → hasDecided (openOf a p) ≡ hasDecided p
-  unfolding hasDecided openOf
+  pub open-decided : (a : ℕ) → hasDecided (openRoundOf a p) ≡ hasDecided p
+  unfolding hasDecided openRoundOf
   open-decided a = refl
 
   pub start-decided : (n a v : ℕ) → hasDecided (startOf n a v p) ≡ hasDecided p
-  unfolding hasDecided startOf openOf
+  unfolding hasDecided startOf openRoundOf
   start-decided n a v = refl
 
-  pub advance-decided : (a : ℕ) (rows : ℕ → GlobalData) → hasDecided (advanceOf a rows p) ≡ hasDecided p
-  unfolding hasDecided advanceOf openOf
-  advance-decided a rows = refl
+  pub advance-decided : (a : ℕ) (g : GlobalData) → hasDecided (advanceOf a g p) ≡ hasDecided p
+  unfolding hasDecided advanceOf openRoundOf
+  advance-decided a g = refl
 
   pub send-decided : (b : ℕ) → hasDecided (sendOf b p) ≡ hasDecided p
   unfolding hasDecided sendOf
@@ -179,19 +160,22 @@ module _ (a : ℕ) (p : Process) (y : ℕ) where
 
 -- a close is due exactly when each member of the current set has arrived or is suspected
 module _ (a : ℕ) (p : Process) where
-  pub due-on : dueOf a p ≡ true → (y : ℕ) → has (p .current) y ≡ true → (has (arrivedOf a p) y || has (p .suspected) y) ≡ true
+  pub due-on : dueOf a p ≡ true → (y : ℕ) → has (p .current) y ≡ true
+      → (has (arrivedOf a p) y || has (p .suspected) y) ≡ true
   unfolding dueOf
   due-on e y h =
       let z = sym (has-difference _ _ y) ∙ nothing-in _ (same-on _ _ e) y in
       sym (has-union _ _ y) ∙ not-off _ (sym (and-on-l _ _ h) ∙ z)
 
   pub due-mk : (n : ℕ) → p .current < 2 ^ n
-      → ((y : ℕ) → has (p .current) y ≡ true → (has (arrivedOf a p) y || has (p .suspected) y) ≡ true) → dueOf a p ≡ true
+      → ((y : ℕ) → has (p .current) y ≡ true → (has (arrivedOf a p) y || has (p .suspected) y) ≡ true)
+      → dueOf a p ≡ true
   unfolding dueOf
   due-mk n l h =
       same-mk _ _
       (empty-by n _ (difference-lt n _ _ l)
-      (λ y k. has-difference _ _ y ∙ off-by _ (λ e. clash _ (has-union _ _ y ∙ h y (and-l _ _ e)) (not-on _ (and-r _ _ e)))))
+      (λ y k.
+      has-difference _ _ y ∙ off-by _ (λ e. clash _ (has-union _ _ y ∙ h y (and-l _ _ e)) (not-on _ (and-r _ _ e)))))
 
 -- ---- step 5: when a close decides
 module _ (n t a : ℕ) (rows : ℕ → GlobalData) (p : Process) where
@@ -229,7 +213,8 @@ module _ (n t a : ℕ) (rows : ℕ → GlobalData) (p : Process) where
     open-round = same-not _ _ (or-none-l _ _ e)
 
     pub open-test : (p .previous ≢ nextOf a p)
-        ⊎ ((sameTo n (filledOf a rows p) (p .estimate) ≡ false) ⊎ (allSame 16 n (peersOf a p) rows (filledOf a rows p) ≡ false))
+        ⊎ ((sameTo n (filledOf a rows p) (p .estimate) ≡ false)
+        ⊎ (allSame 16 n (peersOf a p) rows (filledOf a rows p) ≡ false))
     unfolding decidesOf agreedOf
     open-test = ⊎-elim (λ f. inl (same-not _ _ f)) (λ f. inr (and-cases _ _ f)) (and-cases _ _ (or-none-r _ _ e))
 
@@ -285,8 +270,8 @@ module _ (n t : ℕ) where
       }
 
   module _ (p : Process) (w : Within n t p) where
-    pub within-open : (a : ℕ) → p .round ≤ t → Within n t (openOf a p)
-    unfolding openOf
+    pub within-open : (a : ℕ) → p .round ≤ t → Within n t (openRoundOf a p)
+    unfolding openRoundOf
     within-open a h =
         record {
           round = omega arith;
@@ -372,10 +357,9 @@ module _ (n t : ℕ) where
         })
         a (omega arith)
 
-    within-advance : (a : ℕ) (rows : ℕ → GlobalData) → ((q : ℕ) → rows q .present < 2 ^ n) → p .round ≤ t
-        → Within n t (advanceOf a rows p)
+    within-advance : (a : ℕ) (g : GlobalData) → g .present < 2 ^ n → p .round ≤ t → Within n t (advanceOf a g p)
     unfolding advanceOf
-    within-advance a rows h l =
+    within-advance a g h l =
         within-open _
         (record {
           round = w .round;
@@ -383,16 +367,17 @@ module _ (n t : ℕ) where
           current = next-lt n a p (w .current);
           suspected = w .suspected;
           outbox = w .outbox;
-          estimate = filled-lt n a rows p h (w .estimate);
+          estimate = h;
           received = w .received;
         })
         a l
 
-    pub within-close : (a : ℕ) (rows : ℕ → GlobalData) → ((q : ℕ) → rows q .present < 2 ^ n) → Within n t (closeOf n t a rows p)
+    pub within-close : (a : ℕ) (rows : ℕ → GlobalData) → ((q : ℕ) → rows q .present < 2 ^ n)
+        → Within n t (closeOf n t a rows p)
     within-close a rows h =
         close-by n t a rows p (Within n t)
         (λ e. within-decide p w _ _ (filled-lt n a rows p h (w .estimate)) (owed-lt n a p))
-        (λ e. within-advance a rows h (omega (arith, open-round n t a rows p e)))
+        (λ e. within-advance a _ (filled-lt n a rows p h (w .estimate)) (omega (arith, open-round n t a rows p e)))
 
 -- ---- `received` keeps its length
 abbrev Kept : Process → Process → Type 0
@@ -403,12 +388,12 @@ unfolding idleOf
 idle-length = refl
 
 module _ (p : Process) where
-  pub open-length : (a : ℕ) → Kept p (openOf a p)
-  unfolding openOf
+  pub open-length : (a : ℕ) → Kept p (openRoundOf a p)
+  unfolding openRoundOf
   open-length a = refl
 
   pub start-length : (n a v : ℕ) → Kept p (startOf n a v p)
-  unfolding startOf openOf
+  unfolding startOf openRoundOf
   start-length n a v = refl
 
   pub receive-length : (y r : ℕ) → Kept p (receiveOf y r p)
@@ -420,7 +405,7 @@ module _ (p : Process) where
   decide-length g m = refl
 
   pub close-length : (n t a : ℕ) (rows : ℕ → GlobalData) → Kept p (closeOf n t a rows p)
-  unfolding advanceOf openOf
+  unfolding advanceOf openRoundOf
   close-length n t a rows = close-by n t a rows p (Kept p) (λ e. decide-length _ _) (λ e. refl)
 
   pub adopt-length : (n a k : ℕ) (g : GlobalData) → Kept p (adoptOf n a k g p)

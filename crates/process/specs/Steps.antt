@@ -1,4 +1,5 @@
--- The protocol steps of document 01, 1 to 7, as they change one process. `n` is how many processes there are, `a` the number of this one, from 0.
+-- The protocol steps of document 01, 1 to 7, as they change one process. `n` is how many processes there are,
+-- `a` the number of this one, from 0.
 use mathlib.Core.List.{List, []}
 use mathlib.Core.Bool.{Bool, true, false, not}
 use Prim.Native.Nat.{ℕ, _+_, _-_}
@@ -8,24 +9,16 @@ use Rattle.sets.specs.Truth.{_&&_, _||_, same, below, choose}
 use Rattle.global_data.specs.declared.GlobalData.{GlobalData}
 use Rattle.global_data.specs.GlobalData.{noData, nothingOf, oneOf, fillFrom, sameTo, allSame}
 use Rattle.process.specs.declared.Process.{Process}
+use Rattle.process.specs.Fields.{whole, withRound, withDecided, withPrevious, withCurrent}
+use Rattle.process.specs.Fields.{withSuspected, withOutbox, withEstimate, withReceived}
 
 -- what stands outside an array of processes
 abbrev pub noProcess : Process
-noProcess = record { round = 0; decided = 0; previous = 0; current = 0; suspected = 0; outbox = 0; estimate = noData; received = [] }
+noProcess = whole 0 0 0 0 0 0 noData []
 
 -- a process that has not started
 unfoldable pub idleOf : Process
-idleOf =
-    record {
-      round = 0;
-      decided = 0;
-      previous = emptySet;
-      current = emptySet;
-      suspected = emptySet;
-      outbox = emptySet;
-      estimate = nothingOf;
-      received = replicate 16 0;
-    }
+idleOf = whole 0 0 emptySet emptySet emptySet emptySet nothingOf (replicate 16 emptySet)
 
 -- it has decided: every byte but 0 says so
 unfoldable pub hasDecided : Process → Bool
@@ -35,56 +28,31 @@ hasDecided p = not (same (p .decided) 0)
 unfoldable pub takesPart : Process → Bool
 takesPart p = below 0 (p .round) && not (hasDecided p)
 
--- ---- step 1, start: the estimate is absent but for its own value; previous: all n; current: all n without those it suspects
+-- ---- step 1, start: the estimate is absent but for its own value; previous: all n;
+-- current: all n without those it suspects
 abbrev pub begunOf : ℕ → ℕ → ℕ → Process → Process
 begunOf n a v p =
-    record {
-      round = 0;
-      decided = p .decided;
-      previous = allOf n;
-      current = differenceOf (allOf n) (p .suspected);
-      suspected = p .suspected;
-      outbox = p .outbox;
-      estimate = oneOf a v;
-      received = p .received;
-    }
+    withEstimate (oneOf a v)
+    (withPrevious (allOf n) (withCurrent (differenceOf (allOf n) (p .suspected)) (withRound 0 p)))
 
--- ---- step 2, opening a round: it owes its estimate to each other member of its current set. Which estimate that is, the bench holds.
-unfoldable pub openOf : ℕ → Process → Process
-openOf a p =
-    record {
-      round = p .round + 1;
-      decided = p .decided;
-      previous = p .previous;
-      current = p .current;
-      suspected = p .suspected;
-      outbox = removeOf (p .current) a;
-      estimate = p .estimate;
-      received = p .received;
-    }
+-- ---- step 2, opening a round: it owes its estimate to each other member of its current set.
+-- Which estimate that is, the bench holds.
+unfoldable pub openRoundOf : ℕ → Process → Process
+openRoundOf a p = withOutbox (removeOf (p .current) a) (withRound (p .round + 1) p)
 
 -- steps 1 and 2 together: round 1 opens
 unfoldable pub startOf : ℕ → ℕ → ℕ → Process → Process
-startOf n a v p = openOf a (begunOf n a v p)
+startOf n a v p = openRoundOf a (begunOf n a v p)
 
--- ---- step 3, arrival of an estimate of round r from y: kept for a round not yet reached, or for this round from the current set; else nothing changes
+-- ---- step 3, arrival of an estimate of round r from y: kept for a round not yet reached, or for this round from the
+-- current set; else nothing changes
 unfoldable pub keeps : Process → ℕ → ℕ → Bool
 keeps p y r = not (hasDecided p) && (below (p .round) r || (same r (p .round) && has (p .current) y))
 
 unfoldable pub receiveOf : ℕ → ℕ → Process → Process
 receiveOf y r p =
     choose (keeps p y r)
-    (record {
-      round = p .round;
-      decided = p .decided;
-      previous = p .previous;
-      current = p .current;
-      suspected = p .suspected;
-      outbox = p .outbox;
-      estimate = p .estimate;
-      received = set (p .received) (r - 1) (insertOf (getD (p .received) (r - 1) 0) y);
-    })
-    p
+    (withReceived (set (p .received) (r - 1) (insertOf (getD (p .received) (r - 1) 0) y)) p) p
 
 -- ---- step 4, close: whose estimate of this round has arrived, its own among them
 unfoldable pub arrivedOf : ℕ → Process → ℕ
@@ -102,11 +70,13 @@ nextOf a p = intersectionOf (p .current) (arrivedOf a p)
 unfoldable pub peersOf : ℕ → Process → ℕ
 peersOf a p = removeOf (nextOf a p) a
 
--- each absent entry takes the value that the lowest-numbered member of the next set shows. `rows p` is what process p sent in this round.
+-- each absent entry takes the value that the lowest-numbered member of the next set shows.
+-- `rows p` is what process p sent in this round.
 unfoldable pub filledOf : ℕ → (ℕ → GlobalData) → Process → GlobalData
 filledOf a rows p = fillFrom 16 (peersOf a p) rows (p .estimate)
 
--- ---- step 5, the test: previous is next, and the new estimate equals each arrived one of the next set, its own old one included
+-- ---- step 5, the test: previous is next, and the new estimate equals each arrived one of the
+-- next set, its own old one included
 unfoldable pub agreedOf : ℕ → ℕ → (ℕ → GlobalData) → Process → Bool
 agreedOf n a rows p =
     same (p .previous) (nextOf a p)
@@ -116,20 +86,10 @@ agreedOf n a rows p =
 unfoldable pub decidesOf : ℕ → ℕ → ℕ → (ℕ → GlobalData) → Process → Bool
 decidesOf n t a rows p = same (p .round) (t + 1) || agreedOf n a rows p
 
--- ---- step 5, otherwise: previous becomes current, current becomes next, and the next round opens
-unfoldable pub advanceOf : ℕ → (ℕ → GlobalData) → Process → Process
-advanceOf a rows p =
-    openOf a
-    (record {
-      round = p .round;
-      decided = p .decided;
-      previous = p .current;
-      current = nextOf a p;
-      suspected = p .suspected;
-      outbox = p .outbox;
-      estimate = filledOf a rows p;
-      received = p .received;
-    })
+-- ---- step 5, otherwise: previous becomes current, current becomes next, and the next round
+-- opens with g, the filled estimate
+unfoldable pub advanceOf : ℕ → GlobalData → Process → Process
+advanceOf a g p = openRoundOf a (withEstimate g (withPrevious (p .current) (withCurrent (nextOf a p) p)))
 
 -- ---- step 6, after deciding: whom it owes the decision, all but itself and those it suspects by then
 unfoldable pub owedOf : ℕ → ℕ → Process → ℕ
@@ -137,24 +97,16 @@ owedOf n a p = differenceOf (removeOf (allOf n) a) (p .suspected)
 
 -- it has decided on g, and owes that to the members of m; estimates still owed lapse
 unfoldable pub decideOf : GlobalData → ℕ → Process → Process
-decideOf g m p =
-    record {
-      round = p .round;
-      decided = 1;
-      previous = p .previous;
-      current = p .current;
-      suspected = p .suspected;
-      outbox = m;
-      estimate = g;
-      received = p .received;
-    }
+decideOf g m p = withEstimate g (withOutbox m (withDecided 1 p))
 
 -- steps 4 to 6 together
 unfoldable pub closeOf : ℕ → ℕ → ℕ → (ℕ → GlobalData) → Process → Process
 closeOf n t a rows p =
-    choose (decidesOf n t a rows p) (decideOf (filledOf a rows p) (owedOf n a p) p) (advanceOf a rows p)
+    let g = filledOf a rows p in
+    choose (decidesOf n t a rows p) (decideOf g (owedOf n a p) p) (advanceOf a g p)
 
--- ---- step 7, a decision g of k arrives: a started undecided process takes it over, and does not owe it to k; any other is unchanged
+-- ---- step 7, a decision g of k arrives: a started undecided process takes it over,
+-- and does not owe it to k; any other is unchanged
 unfoldable pub adoptOf : ℕ → ℕ → ℕ → GlobalData → Process → Process
 adoptOf n a k g p = choose (takesPart p) (decideOf g (removeOf (owedOf n a p) k) p) p
 
@@ -164,28 +116,8 @@ messageOf p = choose (hasDecided p) 0 (p .round)
 
 -- what it owed b it no longer owes
 unfoldable pub sendOf : ℕ → Process → Process
-sendOf b p =
-    record {
-      round = p .round;
-      decided = p .decided;
-      previous = p .previous;
-      current = p .current;
-      suspected = p .suspected;
-      outbox = removeOf (p .outbox) b;
-      estimate = p .estimate;
-      received = p .received;
-    }
+sendOf b p = withOutbox (removeOf (p .outbox) b) p
 
 -- ---- it suspects b (notices that b has stopped); no debt ends
 unfoldable pub suspectOf : ℕ → Process → Process
-suspectOf b p =
-    record {
-      round = p .round;
-      decided = p .decided;
-      previous = p .previous;
-      current = p .current;
-      suspected = insertOf (p .suspected) b;
-      outbox = p .outbox;
-      estimate = p .estimate;
-      received = p .received;
-    }
+suspectOf b p = withSuspected (insertOf (p .suspected) b) p

@@ -2,8 +2,10 @@
 ghost use mathlib.Core.Path.{_≡_};
 ghost use Prim.Native.Nat.{_<_, _≤_};
 ghost use Rattle.global_data.specs.GlobalData.{rowsOf};
-ghost use Rattle.process.specs.Steps.{idleOf, hasDecided, takesPart, openOf, startOf, keeps, receiveOf, arrivedOf, dueOf, nextOf, peersOf, filledOf, agreedOf, decidesOf, owedOf, decideOf, closeOf, adoptOf, messageOf, sendOf, suspectOf};
-ghost use Rattle.process.specs.Laws.{advanceTo, wordsWith};
+ghost use Rattle.process.specs.Steps.{idleOf, hasDecided, takesPart, openRoundOf, startOf, keeps, receiveOf};
+ghost use Rattle.process.specs.Steps.{arrivedOf, dueOf, nextOf, peersOf, filledOf, agreedOf, decidesOf, owedOf};
+ghost use Rattle.process.specs.Steps.{advanceOf, decideOf, closeOf, adoptOf, messageOf, sendOf, suspectOf};
+ghost use Rattle.process.specs.Laws.{wordsWith};
 ghost use Rattle.sets.specs.Truth.{choose};
 ghost use Rattle.sets.specs.Set.{insertOf};
 use global_data::GlobalData;
@@ -38,8 +40,8 @@ fn word_with(m: u16, put: bool, y: usize) -> u16
     if put { sets::insert(m, y) } else { m }
 }
 
-// The sets, with y in the one at `at`; at 16 there is none. Each is written, since a store at an index that is known late makes the
-// next read wait.
+// The sets, with y in the one at `at`; at 16 there is none. Each is written, since a store at an index that is known
+// late makes the next read wait.
 fn words_with(words: [u16; 16], at: u16, y: usize) -> [u16; 16]
     requires { ⌜ y < 16 ⌝ }
     ensures { λ r. ⌜ r ≡ wordsWith words at y ⌝ }
@@ -64,7 +66,8 @@ fn words_with(words: [u16; 16], at: u16, y: usize) -> [u16; 16]
     ]
 }
 
-// The steps. `n` is how many processes there are, `a` the number of this one, from 0; `rows` has what each process sent in this round.
+// The steps. `n` is how many processes there are, `a` the number of this one, from 0;
+// `rows` has what each process sent in this round.
 impl Process {
     // It has not started.
     pub fn idle() -> Process
@@ -100,7 +103,7 @@ impl Process {
     pub fn open_round(mut self, a: usize) -> Process
         requires { ⌜ a < 16 ⌝ }
         requires { ⌜ self .round < 255 ⌝ }
-        ensures { λ r. ⌜ r ≡ openOf a self ⌝ }
+        ensures { λ r. ⌜ r ≡ openRoundOf a self ⌝ }
     {
         let others = sets::remove(self.current, a);
         self.round = self.round + 1;
@@ -193,7 +196,8 @@ impl Process {
         fill_from(g, self.peers(a), rows)
     }
 
-    // Step 5, the test, where g is the filled estimate: its sets agree, and g equals each arrived estimate, its own old one included.
+    // Step 5, the test, where g is the filled estimate: its sets agree, and g equals each arrived
+    // estimate, its own old one included.
     fn agreed(self, n: usize, a: usize, rows: [GlobalData; 16], g: GlobalData) -> bool
         requires { ⌜ n ≤ 16 ⌝ }
         requires { ⌜ a < 16 ⌝ }
@@ -232,7 +236,7 @@ impl Process {
     fn advance(mut self, a: usize, g: GlobalData) -> Process
         requires { ⌜ a < 16 ⌝ }
         requires { ⌜ (1 ≤ self .round) × (self .round ≤ 16) ⌝ }
-        ensures { λ r. ⌜ r ≡ advanceTo a g self ⌝ }
+        ensures { λ r. ⌜ r ≡ advanceOf a g self ⌝ }
     {
         let next = self.next(a);
         self.previous = self.current;

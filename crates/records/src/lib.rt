@@ -6,20 +6,14 @@ use bench::Refusal;
 ghost use mathlib.Core.Path.{_≡_};
 ghost use mathlib.Core.Bool.{true};
 ghost use Prim.Native.Nat.{_-_};
-ghost use Rattle.bench.specs.Record.{wordOf, isProcess, usesB, fieldB, fieldR, fieldValue, fields, messageFrom, eventOf, partsOf, decodeOf};
-ghost use Rattle.bench.specs.RecordLaws.{isKind};
+ghost use Rattle.bench.specs.Record.{wordOf, usesB, fieldB, fieldR, fieldValue};
+ghost use Rattle.bench.specs.Record.{fields, messageFrom, eventOf, partsOf, decodeOf};
+ghost use Rattle.sets.specs.Truth.{oneTo};
 
 fn word(a: u8, b: u8, c: u8, d: u8) -> u32
     ensures { λ r. ⌜ r ≡ wordOf a b c d ⌝ }
 {
     (a as u32) + (b as u32) * 256 + (c as u32) * 65536 + (d as u32) * 16777216
-}
-
-// A number 1 to n.
-pub fn is_process(n: u8, x: u8) -> bool
-    ensures { λ r. ⌜ r ≡ isProcess n x ⌝ }
-{
-    (0 < x) & (x <= n)
 }
 
 fn uses_b(kind: u8) -> bool
@@ -32,7 +26,7 @@ fn field_b(n: u8, kind: u8, a: u8, b: u8) -> bool
     ensures { λ r. ⌜ r ≡ fieldB n kind a b ⌝ }
 {
     if uses_b(kind) {
-        is_process(n, b) & (a != b)
+        sets::one_to(n, b) & (a != b)
     } else {
         b == 0
     }
@@ -57,7 +51,7 @@ fn field_value(kind: u8, v: u32) -> bool
 fn fields_ok(n: u8, t: u8, kind: u8, a: u8, b: u8, r: u8, v: u32) -> bool
     ensures { λ res. ⌜ res ≡ fields n t kind a b r v ⌝ }
 {
-    is_process(n, a) & (field_b(n, kind, a, b) & (field_r(t, kind, r) & field_value(kind, v)))
+    sets::one_to(n, a) & (field_b(n, kind, a, b) & (field_r(t, kind, r) & field_value(kind, v)))
 }
 
 // A number from 1 as one from 0; 0, of an unused field, stays.
@@ -102,7 +96,7 @@ fn event(kind: u8, a: usize, b: usize, r: u8, v: u32) -> Event
 
 // A record of a kind 1 to 6.
 fn known(n: u8, t: u8, kind: u8, a: u8, b: u8, r: u8, v: u32) -> Decoded
-    requires { ⌜ isKind kind ≡ true ⌝ }
+    requires { ⌜ oneTo 6 kind ≡ true ⌝ }
     ensures { λ res. ⌜ res ≡ partsOf n t kind a b r v ⌝ }
 {
     if fields_ok(n, t, kind, a, b, r, v) {

@@ -1,5 +1,6 @@
--- One turn of run's loop, as its code takes it: what is known at the loop's head, what each way of a turn comes to, and each event's check
--- and effect on the parts that it changes. A turn is one of the four laws of run; the rest is the definitions with their parts named.
+-- One turn of run's loop, as its code takes it: what is known at the loop's head, what each way of a turn comes to,
+-- and each event's check and effect on the parts that it changes. A turn is one of the four laws of run;
+-- the rest is the definitions with their parts named.
 use mathlib.Core.Path.{_≡_, refl, sym, ap, ap₂, _∙_}
 use mathlib.Core.Logic.{_≢_}
 use mathlib.Core.List.{List, [], _∷_}
@@ -9,15 +10,17 @@ use native.Mathlib.Nat.{add-zero}
 use native.Mathlib.Omega.{arith}
 use lib.ListN.{length, getD, set, take, drop, length-take, length-drop}
 use lib.Seq.{drop-drop}
-use Rattle.sets.specs.Each.{each, getD-each}
-use Rattle.sets.specs.Every.{every}
+use Rattle.sets.specs.Lists.{each, every}
+use Rattle.sets.specs.EachLaws.{getD-each}
 use Rattle.sets.specs.Set.{has, insertOf, removeOf}
-use Rattle.sets.specs.Truth.{_&&_, choose, and-l, Is, on, off, is, clash, choose-on, choose-off, or-none-l, same-not}
+use Rattle.sets.specs.Truth.{_&&_, choose, _||_}
+use Rattle.sets.specs.TruthLaws.{and-l, Is, on, off, is, clash, choose-on, choose-off, or-none-l, same-not, check-zero}
 use Rattle.global_data.specs.declared.GlobalData.{GlobalData}
 use Rattle.global_data.specs.GlobalData.{noData, fillOf, fillFrom, sameTo, allSame, rowsOf}
 use Rattle.process.specs.declared.Process.{Process}
 use Rattle.process.specs.Laws.{decide-decided}
-use Rattle.process.specs.Steps.{hasDecided, noProcess, openOf, startOf, peersOf, filledOf, agreedOf, decidesOf, decideOf, advanceOf, closeOf, messageOf, sendOf, suspectOf, receiveOf, adoptOf}
+use Rattle.process.specs.Steps.{hasDecided, noProcess, openRoundOf, startOf, peersOf, filledOf, agreedOf, decidesOf}
+use Rattle.process.specs.Steps.{decideOf, advanceOf, closeOf, messageOf, sendOf, suspectOf, receiveOf, adoptOf}
 use Rattle.bench.specs.declared.Bench.{Bench}
 use Rattle.bench.specs.declared.Refusal.{Refusal}
 use Rattle.bench.specs.declared.Message.{Message}
@@ -32,12 +35,13 @@ use Rattle.bench.specs.Sound.{soundOf}
 use Rattle.bench.specs.SoundLaws.{Bounds, sound-on, sound-step}
 use Rattle.bench.specs.Record.{decodeOf}
 use Rattle.bench.specs.RecordLaws.{messageIn, inRange, decode-size, decode-refused, decode-range}
-use Rattle.bench.specs.Refuse.{numberOf, actor, possible, ready, allowed, refuses, refusal}
-use Rattle.bench.specs.RefuseLaws.{check-zero, refusal-unread, refusal-event, accepted-effect}
+use Rattle.bench.specs.Refuse.{numberOf, actor, isCrash, passes7, passes8, passes9, refuses, refusal}
+use Rattle.bench.specs.RefuseLaws.{refusal-unread, refusal-event, accepted-effect}
 use Rattle.bench.specs.Effect.{opensRound, rowsAt, sends, arrives, closesAs, effect, effectDecoded, effectOf}
 use Rattle.bench.specs.Calls.{refused, endedOf, runFrom, runOf}
 use Rattle.bench.specs.RunLaws.{run-empty, run-spent, run-refused, run-accepted, run-sound}
-use Rattle.checks.specs.Checks.{firstOf, startCheck, messageCheck, closeCheck, crashCheck, suspectCheck, takes-started}
+use Rattle.checks.specs.Checks.{firstFailed, startCheck, messageCheck, closeCheck}
+use Rattle.checks.specs.Checks.{crashCheck, suspectCheck, takes-started}
 
 -- ---- the loop's head: of the schedule l, `at` bytes are taken in `accepted` records, from b to s
 pub record Running (budget : ℕ) (l : List ℕ) (b s : Bench) (at accepted : ℕ) : Type 0 where
@@ -76,10 +80,12 @@ module _ (budget : ℕ) (l : List ℕ) (b s : Bench) (at accepted : ℕ) where
       sym (run-spent (drop at l) s accepted at (budget - accepted) (some-left h) (omega arith)) ∙ w .gives
 
   -- refused, by the number of the next record
-  ends-refused : Running budget l b s at accepted → at < length l → accepted ≢ budget → (k : ℕ) → refusal s (take 8 (drop at l)) ≡ k
+  ends-refused : Running budget l b s at accepted → at < length l → accepted ≢ budget → (k : ℕ)
+      → refusal s (take 8 (drop at l)) ≡ k
       → k ≢ 0 → endedOf s accepted (RefusedRun (refused k)) at ≡ runOf budget l b
   ends-refused w h f k e z =
-      sym (run-refused (drop at l) s accepted at (budget - accepted) (some-left h) (λ u. f (omega (arith, w .within-budget))) (rw e z)
+      sym (run-refused (drop at l) s accepted at (budget - accepted) (some-left h)
+      (λ u. f (omega (arith, w .within-budget))) (rw e z)
       ∙ ap (λ k. endedOf s accepted (RefusedRun (refused k)) at) e) ∙ w .gives
 
   -- fewer than 8 bytes are left
@@ -89,14 +95,16 @@ module _ (budget : ℕ) (l : List ℕ) (b s : Bench) (at accepted : ℕ) where
       let r : Refusal = record { number = 3 } in
       ends-refused w h f 3
       (refusal-unread s (take 8 (drop at l)) (w .sound) r
-      (decode-size (s .n) (s .t) (take 8 (drop at l)) (λ e. omega (arith, length-take 8 (drop at l), length-drop at l))))
+      (decode-size (s .n) (s .t) (take 8 (drop at l))
+      (λ e. omega (arith, length-take 8 (drop at l), length-drop at l))))
       (omega arith)
 
   -- the next 8 bytes, as the code takes them
   next : (d : Decoded) → Turn budget l b s at accepted d → decodeOf (s .n) (s .t) (take 8 (drop at l)) ≡ d
   next d w = let e : at + 8 - at ≡ 8 = omega arith in rw e at (w .decoded)
 
-  pub ends-unread : (r : Refusal) → Turn budget l b s at accepted (Refused r) → endedOf s accepted (RefusedRun r) at ≡ runOf budget l b
+  pub ends-unread : (r : Refusal) → Turn budget l b s at accepted (Refused r)
+      → endedOf s accepted (RefusedRun r) at ≡ runOf budget l b
   ends-unread r w =
       ends-refused (w .running) (omega (arith, w .whole)) (w .left) (r .number)
       (refusal-unread s (take 8 (drop at l)) (w .running .sound) r (next (Refused r) w))
@@ -110,7 +118,8 @@ module _ (budget : ℕ) (l : List ℕ) (b s : Bench) (at accepted : ℕ) where
       (refusal-event s (take 8 (drop at l)) (w .running .sound) e (next (Got e) w) ∙ sym p) z
 
   -- it is accepted, and d is the bench that the code makes
-  pub goes : (e : Event) → Turn budget l b s at accepted (Got e) → (k : ℕ) → k ≡ refuses e s → k ≡ 0 → (d : Bench) → d ≡ effect e s
+  pub goes : (e : Event) → Turn budget l b s at accepted (Got e) → (k : ℕ) → k ≡ refuses e s → k ≡ 0 → (d : Bench)
+      → d ≡ effect e s
       → Running budget l b d (at + 8) (accepted + 1)
   unfolding effectOf effectDecoded
   goes e w k p z d q =
@@ -142,13 +151,15 @@ low-in : (n t : ℕ) → n < 17 → t < n → (e : Event) → inRange n t e → 
 unfolding inRange messageIn Low
 low-in n t p q (Start a v) h = omega arith
 low-in n t p q (Send a b) h = (omega (arith, h .first), omega (arith, h .second))
-low-in n t p q (Arrive a b (Estimate r)) h = (omega (arith, h .0 .first), omega (arith, h .0 .second), (h .1 .0, omega (arith, h .1 .1)))
+low-in n t p q (Arrive a b (Estimate r)) h =
+    (omega (arith, h .0 .first), omega (arith, h .0 .second), (h .1 .0, omega (arith, h .1 .1)))
 low-in n t p q (Arrive a b Decision) h = (omega (arith, h .0 .first), omega (arith, h .0 .second), tt)
 low-in n t p q (Close a) h = omega arith
 low-in n t p q (Crash a) h = omega arith
 low-in n t p q (Suspect a b) h = (omega (arith, h .first), omega (arith, h .second))
 
-module _ {budget : ℕ} {l : List ℕ} {b s : Bench} {at accepted : ℕ} {d : Decoded} (w : Turn budget l b s at accepted d) where
+module _ {budget : ℕ} {l : List ℕ} {b s : Bench} {at accepted : ℕ} {d : Decoded}
+    (w : Turn budget l b s at accepted d) where
   pub turn-bounds : Bounds s
   turn-bounds = sound-on s (w .running .sound)
 
@@ -183,7 +194,8 @@ message-low p h = go (is (hasDecided p))
     go (on e) = rw (choose-on (hasDecided p) 0 (p .round) e) (omega arith)
     go (off e) = rw (choose-off (hasDecided p) 0 (p .round) e) h
 
--- where the code looks: the row of round r + 1 of a, the row k places on from r, and message r of a, the definition's m
+-- where the code looks: the row of round r + 1 of a, the row k places on from r,
+-- and message r of a, the definition's m
 pub slot-low : (a r : ℕ) → a < 16 → r < 16 → a * 16 + r < 256
 slot-low a r p q = omega arith
 
@@ -203,7 +215,8 @@ module _ (f g : ℕ → GlobalData) (h : (k : ℕ) → k < 16 → f k ≡ g k) w
       ap₂ (choose (has m p)) (ap₂ fillOf i (h p (omega arith))) i
 
   every-rows : (p n m : ℕ) (e : GlobalData) → p ≤ 16
-      → every p (λ q. choose (has m q) (sameTo n (f q) e) true) ≡ every p (λ q. choose (has m q) (sameTo n (g q) e) true)
+      → every p (λ q. choose (has m q) (sameTo n (f q) e) true)
+      ≡ every p (λ q. choose (has m q) (sameTo n (g q) e) true)
   unfolding every
   every-rows zero n m e l = refl
   every-rows (suc p) n m e l =
@@ -212,26 +225,35 @@ module _ (f g : ℕ → GlobalData) (h : (k : ℕ) → k < 16 → f k ≡ g k) w
   pub close-rows : (n t a : ℕ) (p : Process) → closeOf n t a f p ≡ closeOf n t a g p
   unfolding closeOf decidesOf agreedOf filledOf allSame advanceOf
   close-rows n t a p =
-      simp (fill-rows 16 (peersOf a p) (p .estimate) (omega arith), every-rows 16 n (peersOf a p) (fillFrom 16 (peersOf a p) g (p .estimate)) (omega arith))
+      simp (
+        fill-rows 16 (peersOf a p) (p .estimate) (omega arith),
+        every-rows 16 n (peersOf a p) (fillFrom 16 (peersOf a p) g (p .estimate)) (omega arith),
+      )
 
 -- a close that does not decide opens the next round, which is not past the last
 module _ (n t a : ℕ) (rows : ℕ → GlobalData) (p : Process) where
-  pub close-opens : hasDecided (closeOf n t a rows p) ≡ false → (closeOf n t a rows p .round ≡ p .round + 1) × (p .round ≢ t + 1)
-  unfolding closeOf advanceOf openOf decidesOf
+  pub close-opens : hasDecided (closeOf n t a rows p) ≡ false
+      → (closeOf n t a rows p .round ≡ p .round + 1) × (p .round ≢ t + 1)
+  unfolding closeOf advanceOf openRoundOf decidesOf
   close-opens e = go (is (decidesOf n t a rows p))
     where
       go : Is (decidesOf n t a rows p) → (closeOf n t a rows p .round ≡ p .round + 1) × (p .round ≢ t + 1)
-      go (on d) = clash _ (decide-decided p _ _) (rw (choose-on (decidesOf n t a rows p) _ (advanceOf a rows p) d) at e)
-      go (off d) = (rw (choose-off (decidesOf n t a rows p) _ (advanceOf a rows p) d), same-not _ _ (or-none-l _ _ d))
+      go (on d) =
+          clash _ (decide-decided p _ _)
+          (rw (choose-on (decidesOf n t a rows p) _ (advanceOf a (filledOf a rows p) p) d) at e)
+      go (off d) = (
+        rw (choose-off (decidesOf n t a rows p) _ (advanceOf a (filledOf a rows p) p) d),
+        same-not _ _ (or-none-l _ _ d),
+      )
 
 -- a start opens round 1
 pub start-round : (n a v : ℕ) (p q : Process) → q ≡ startOf n a v p → (1 ≤ q .round) × (q .round ≤ 16)
-unfolding startOf openOf
+unfolding startOf openRoundOf
 start-round n a v p q e = let r : q .round ≡ 1 = ap (λ (p : Process). p .round) e in omega arith
 
 -- a close that is let through is of a process that has started
 pub close-started : (crashed a : ℕ) (p : Process) → closeCheck crashed a p ≡ 0 → 1 ≤ p .round
-unfolding closeCheck firstOf
+unfolding closeCheck firstFailed
 close-started crashed a p z =
     let c = check-zero _ 6 _ (omega arith) z in
     let q = check-zero _ 7 _ (omega arith) (c .1) in
@@ -240,32 +262,40 @@ close-started crashed a p z =
 -- ---- each event's check, and its effect, on the parts of the bench
 module _ (s : Bench) where
   pub refuses-start : (a v : ℕ) → refuses (Start a v) s ≡ startCheck (s .crashed) a (processAt s a .round)
-  unfolding refuses actor possible ready allowed crashedAt startCheck firstOf
+  unfolding refuses actor isCrash passes7 passes8 passes9 _||_ crashedAt startCheck firstFailed
   refuses-start a v = refl
 
   pub refuses-send : (a b : ℕ) → refuses (Send a b) s ≡ messageCheck (s .crashed) a (processAt s a .outbox) b
-  unfolding refuses actor possible ready allowed crashedAt messageCheck firstOf
+  unfolding refuses actor isCrash passes7 passes8 passes9 _||_ crashedAt messageCheck firstFailed
   refuses-send a b = refl
 
-  pub refuses-arrive : (a b : ℕ) (m : Message) → refuses (Arrive a b m) s ≡ messageCheck (s .crashed) b (transitAt s a (numberOf m)) b
-  unfolding refuses actor possible ready allowed crashedAt messageCheck firstOf
+  pub refuses-arrive : (a b : ℕ) (m : Message)
+      → refuses (Arrive a b m) s ≡ messageCheck (s .crashed) b (transitAt s a (numberOf m)) b
+  unfolding refuses actor isCrash passes7 passes8 passes9 _||_ crashedAt messageCheck firstFailed
   refuses-arrive a b m = refl
 
   pub refuses-close : (a : ℕ) → refuses (Close a) s ≡ closeCheck (s .crashed) a (processAt s a)
-  unfolding refuses actor possible ready allowed crashedAt closeCheck firstOf
+  unfolding refuses actor isCrash passes7 passes8 passes9 _||_ crashedAt closeCheck firstFailed
   refuses-close a = refl
 
   pub refuses-crash : (a : ℕ) → refuses (Crash a) s ≡ crashCheck (s .crashed) a (s .t)
-  unfolding refuses actor possible ready allowed crashedAt crashCheck firstOf
+  unfolding refuses actor isCrash passes7 passes8 passes9 _||_ crashedAt crashCheck firstFailed
   refuses-crash a = refl
 
   pub refuses-suspect : (a b : ℕ) → refuses (Suspect a b) s ≡ suspectCheck (s .crashed) a (processAt s a .suspected) b
-  unfolding refuses actor possible ready allowed crashedAt suspectCheck firstOf
+  unfolding refuses actor isCrash passes7 passes8 passes9 _||_ crashedAt suspectCheck firstFailed
   refuses-suspect a b = refl
 
   -- a crash; m is the code's set
   pub effect-crash : (a m : ℕ) → m ≡ insertOf (s .crashed) a
-      → record { n = s .n; t = s .t; crashed = m; processes = s .processes; sent = s .sent; in_transit = s .in_transit } ≡ effect (Crash a) s
+      → record {
+        n = s .n;
+        t = s .t;
+        crashed = m;
+        processes = s .processes;
+        sent = s .sent;
+        in_transit = s .in_transit;
+      } ≡ effect (Crash a) s
   unfolding effect withCrashed
   effect-crash a m e = rw e
 
@@ -329,8 +359,10 @@ module _ (s : Bench) where
 abbrev othersIn : List GlobalData → ℕ → List GlobalData
 othersIn sent r =
     let row : ℕ → GlobalData = λ i. getD sent i noData in
-    row (r + 16) ∷ row (r + 32) ∷ row (r + 48) ∷ row (r + 64) ∷ row (r + 80) ∷ row (r + 96) ∷ row (r + 112) ∷ row (r + 128)
-    ∷ row (r + 144) ∷ row (r + 160) ∷ row (r + 176) ∷ row (r + 192) ∷ row (r + 208) ∷ row (r + 224) ∷ row (r + 240) ∷ []
+    row (r + 16) ∷ row (r + 32) ∷ row (r + 48) ∷ row (r + 64) ∷ row (r + 80) ∷ row (r + 96) ∷ row (r + 112)
+    ∷ row (r + 128)
+    ∷ row (r + 144) ∷ row (r + 160) ∷ row (r + 176) ∷ row (r + 192) ∷ row (r + 208) ∷ row (r + 224) ∷ row (r + 240)
+    ∷ []
 
 abbrev pub rowsIn : List GlobalData → ℕ → List GlobalData
 rowsIn sent r = getD sent r noData ∷ othersIn sent r
@@ -348,7 +380,8 @@ module _ (s : Bench) (a r : ℕ) (q : Process) (e : r ≡ processAt s a .round -
       h ∙ close-rows (rowsOf (rowsIn (s .sent) r)) (rowsAt s (processAt s a .round))
       (λ k l.
       ap (λ (rows : List GlobalData). getD rows k noData) (rows-each (s .sent) r)
-      ∙ getD-each 16 (λ k. getD (s .sent) (r + k * 16) noData) noData k l ∙ ap (λ i. getD (s .sent) i noData) (omega (arith, e)))
+      ∙ getD-each 16 (λ k. getD (s .sent) (r + k * 16) noData) noData k l
+      ∙ ap (λ i. getD (s .sent) i noData) (omega (arith, e)))
       (s .n) (s .t) a (processAt s a)
 
   pub effect-decides : hasDecided q ≡ true → withProcess s a q ≡ effect (Close a) s
@@ -361,7 +394,8 @@ module _ (s : Bench) (a r : ℕ) (q : Process) (e : r ≡ processAt s a .round -
       opened-at s a i q j ∙ rw (← closed) (sym (choose-off (hasDecided q) (withProcess s a q) (opensRound s a q) d))
 
   -- the round that it opens
-  pub opened-round : hasDecided q ≡ false → s .t < 16 → processAt s a .round ≤ s .t + 1 → (1 ≤ q .round) × (q .round ≤ 16)
+  pub opened-round : hasDecided q ≡ false → s .t < 16 → processAt s a .round ≤ s .t + 1
+      → (1 ≤ q .round) × (q .round ≤ 16)
   opened-round d l m =
       let o : (q .round ≡ processAt s a .round + 1) × (processAt s a .round ≢ s .t + 1) =
       rw h (close-opens (s .n) (s .t) a (rowsOf (rowsIn (s .sent) r)) (processAt s a) (rw h at d)) in

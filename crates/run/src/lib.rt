@@ -1,5 +1,5 @@
-// Run, by value: a bench stepped by the records of a schedule. The call for one record is in `one_record`, the forms that lend are in
-// `host`.
+// Run, by value: a bench stepped by the records of a schedule. The call for one record is in `one_record`,
+// the forms that lend are in `host`.
 use bench::Bench;
 use bench::Cause;
 use bench::Decoded;
@@ -13,8 +13,8 @@ use checks::message_check;
 use checks::start_check;
 use checks::suspect_check;
 use records::decode;
+use sets::set_within;
 use soundness::parts_sound;
-use soundness::set_within;
 ghost use mathlib.Core.Path.{_≡_};
 ghost use Prim.Native.Nat.{_-_, _<_, _≤_};
 ghost use Rattle.bench.specs.declared.Cause.the-variants.{Refused as RefusedRun};
@@ -51,8 +51,8 @@ fn round_index(round: u8) -> usize
     (round - 1) as usize
 }
 
-// Any bench: a damaged one is refused, with nothing taken. The state is one local: it is tested and changed where it lies, since a
-// function that took it would copy it.
+// Any bench: a damaged one is refused, with nothing taken. The state is one local: it is tested and changed where it
+// lies, since a function that took it would copy it.
 pub fn run_bytes(bench: Bench, schedule: &[u8], budget: u32) -> Ended
     ensures { λ r. ⌜ r ≡ runOf budget (now (schedule .entry)) bench ⌝ }
 {

@@ -1,4 +1,5 @@
--- Laws of sets of processes: who is a member after each operation, sets with the same members are one, bounds and sizes.
+-- Laws of sets of processes: who is a member after each operation, sets with the same
+-- members are one, bounds and sizes.
 -- Each operation works on the digits 0 and 1 apart, so a law of membership is a table of four lines.
 use mathlib.Core.Path.{_≡_, refl, sym, ap, ap₂, _∙_}
 use mathlib.Core.Logic.{_⊎_, inl, inr, ⊎-elim}
@@ -7,12 +8,16 @@ use Prim.Native.Nat.{ℕ, zero, suc, _+_, _-_, _*_, _/_, _%_, _^_, _≤_, _<_, m
 use native.Mathlib.Nat.{pow-suc, one-mul, div-self, mul-div-cancel, div-eq-of-lt}
 use native.Mathlib.Omega.{arith}
 use lib.Arith.{lt-one, digits-div, digits-mod, bin-ind}
-use lib.Bits.{bitAnd, bitOr, bitXor, differ, and-step, or-step, xor-step, and-shr, or-shr, xor-shr, and-le-l, and-le-r, or-lt, xor-lt, or-add-and}
+use lib.Bits.{bitAnd, bitOr, bitXor, differ, and-step, or-step, xor-step, and-shr}
+use lib.Bits.{or-shr, xor-shr, and-le-l, and-le-r, or-lt, xor-lt, or-add-and}
 use lib.Count.{ones, ones-step, ones-cat, ones-ones, ones-le}
 use lib.Dec.{lit<}
 use lib.Pow.{pow-pos, pow-mono, pow-lt, pow-add, shr-shr, ones-split, ones-lt, high, shl-exact}
-use Rattle.sets.specs.Truth.{_&&_, _||_, same, below, Is, on, off, is, off-by, both-ways, and-on-l, and-on-r, and-off-l, and-off-r, same-mk, same-on, below-mk, below-off, le-or, eq-or}
-use Rattle.sets.specs.Count.{bit, count, count-first, count-cong, count-mono}
+use Rattle.sets.specs.Truth.{_&&_, _||_, same, below, bit}
+use Rattle.sets.specs.TruthLaws.{Is, on, off, is, off-by, both-ways, and-on-l, and-on-r, and-off-l}
+use Rattle.sets.specs.TruthLaws.{and-off-r, same-mk, same-on, below-mk, below-off, le-or, eq-or}
+use Rattle.sets.specs.Lists.{count}
+use Rattle.sets.specs.CountLaws.{count-first, count-cong, count-mono}
 use Rattle.sets.specs.Set.{has, insertOf, removeOf, unionOf, intersectionOf, differenceOf, allOf, sizeOf}
 
 -- ---- digits
@@ -62,26 +67,30 @@ pub has-union : (a b i : ℕ) → has (unionOf a b) i ≡ (has a i || has b i)
 unfolding has unionOf same _||_
 has-union a b i =
     ap (λ (x : ℕ). same x 1) (digit-or a b i)
-    ∙ table (λ (x y : ℕ). same (max x y) 1 ≡ (same x 1 || same y 1)) refl refl refl refl (digit a i) (digit b i) (omega arith) (omega arith)
+    ∙ table (λ (x y : ℕ). same (max x y) 1 ≡ (same x 1 || same y 1)) refl refl refl refl (digit a i) (digit b i)
+    (omega arith) (omega arith)
 
 pub has-intersection : (a b i : ℕ) → has (intersectionOf a b) i ≡ (has a i && has b i)
 unfolding has intersectionOf same _&&_
 has-intersection a b i =
     ap (λ (x : ℕ). same x 1) (digit-and a b i)
-    ∙ table (λ (x y : ℕ). same (min x y) 1 ≡ (same x 1 && same y 1)) refl refl refl refl (digit a i) (digit b i) (omega arith) (omega arith)
+    ∙ table (λ (x y : ℕ). same (min x y) 1 ≡ (same x 1 && same y 1)) refl refl refl refl (digit a i) (digit b i)
+    (omega arith) (omega arith)
 
 pub has-difference : (a b i : ℕ) → has (differenceOf a b) i ≡ (has a i && not (has b i))
 unfolding has differenceOf same _&&_
 has-difference a b i =
     ap (λ (x : ℕ). same x 1) (digit-xor a (bitAnd a b) i ∙ ap (differ (digit a i)) (digit-and a b i))
-    ∙ table (λ (x y : ℕ). same (differ x (min x y)) 1 ≡ (same x 1 && not (same y 1))) refl refl refl refl (digit a i) (digit b i) (omega arith) (omega arith)
+    ∙ table (λ (x y : ℕ). same (differ x (min x y)) 1 ≡ (same x 1 && not (same y 1))) refl refl refl refl (digit a i)
+    (digit b i) (omega arith) (omega arith)
 
 -- ---- the empty set, one process, all
 pub has-low : (n m i : ℕ) → m < 2 ^ n → has m i ≡ true → i < n
 unfolding has
 has-low n m i h e =
     ⊎-elim
-    (λ l. absurd (omega (arith, div-eq-of-lt {n = m} {m = 2 ^ i} (omega (arith, pow-mono l)), same-on (digit m i) 1 e)))
+    (λ l.
+    absurd (omega (arith, div-eq-of-lt {n = m} {m = 2 ^ i} (omega (arith, pow-mono l)), same-on (digit m i) 1 e)))
     (λ l. l) (le-or n i)
 
 -- no member past the bound
@@ -103,7 +112,8 @@ pow-low i j h =
     let e : i ≡ suc (i - suc j) + j = omega arith in
     let f : 2 ^ i ≡ 2 ^ (i - suc j) * 2 * 2 ^ j =
     ap (λ (k : ℕ). 2 ^ k) e ∙ pow-add 2 (suc (i - suc j)) j ∙ ap (λ (x : ℕ). x * 2 ^ j) (pow-suc 2 (i - suc j)) in
-    ap (λ (x : ℕ). x / 2 ^ j % 2) f ∙ ap (λ (x : ℕ). x % 2) (mul-div-cancel (2 ^ (i - suc j) * 2) (pow-pos j)) ∙ omega arith
+    ap (λ (x : ℕ). x / 2 ^ j % 2) f ∙ ap (λ (x : ℕ). x % 2) (mul-div-cancel (2 ^ (i - suc j) * 2) (pow-pos j))
+    ∙ omega arith
 
 has-one : (i j : ℕ) → has (2 ^ i) j ≡ same j i
 unfolding has
@@ -111,7 +121,8 @@ has-one i j =
     both-ways (has (2 ^ i) j) (same j i)
     (λ e.
     let l : j < suc i = has-low (suc i) (2 ^ i) j (pow-lt (omega arith)) e in
-    same-mk j i (⊎-elim (λ k. omega arith) (λ k. absurd (omega (arith, pow-low i j k, same-on (digit (2 ^ i) j) 1 e))) (le-or i j)))
+    same-mk j i (⊎-elim (λ k. omega arith)
+    (λ k. absurd (omega (arith, pow-low i j k, same-on (digit (2 ^ i) j) 1 e))) (le-or i j)))
     (λ e. rw (same-on j i e) (has-digit (2 ^ i) i (ap (λ (x : ℕ). x % 2) (div-self (pow-pos i)))))
 
 or-swap : (a b : Bool) → (a || b) ≡ (b || a)
@@ -209,7 +220,8 @@ members-low n m hm h = rw e (omega (arith, and-le-r m (allOf n), all-lt n))
 
     e : m ≡ intersectionOf m (allOf n)
     e = set-ext 16 m (intersectionOf m (allOf n)) hm (intersection-lt 16 m (allOf n) hm)
-        (λ i l. part i (is (has m i)) l ∙ sym (has-intersection m (allOf n) i ∙ ap (λ (b : Bool). has m i && b) (has-all n i)))
+        (λ i l.
+        part i (is (has m i)) l ∙ sym (has-intersection m (allOf n) i ∙ ap (λ (b : Bool). has m i && b) (has-all n i)))
 
 -- ---- sizes
 pub size-empty : sizeOf 0 ≡ 0
@@ -237,7 +249,8 @@ pub size-all : (n : ℕ) → sizeOf (allOf n) ≡ n
 unfolding sizeOf allOf
 size-all n = ones-ones n
 
-pub size-subset : (n a b : ℕ) → a < 2 ^ n → b < 2 ^ n → ((i : ℕ) → has a i ≡ true → has b i ≡ true) → sizeOf a ≤ sizeOf b
+pub size-subset : (n a b : ℕ) → a < 2 ^ n → b < 2 ^ n → ((i : ℕ) → has a i ≡ true → has b i ≡ true)
+    → sizeOf a ≤ sizeOf b
 size-subset n a b ha hb h =
     omega (arith, size-count n a ha, size-count n b hb, count-mono n (has a) (has b) (λ i l. h i))
 
@@ -263,7 +276,8 @@ size-union a =
 meet-one : (m i k : ℕ) → k < 2 ^ suc i → ((j : ℕ) → (has m j && same j i) ≡ has k j) → bitAnd m (2 ^ i) ≡ k
 unfolding intersectionOf
 meet-one m i k hk h =
-    set-ext (suc i) (bitAnd m (2 ^ i)) k (omega (arith, and-le-r m (2 ^ i), pow-lt {i = i} {j = suc i} (omega arith))) hk
+    set-ext (suc i) (bitAnd m (2 ^ i)) k
+    (omega (arith, and-le-r m (2 ^ i), pow-lt {i = i} {j = suc i} (omega arith))) hk
     (λ j l. has-intersection m (2 ^ i) j ∙ ap (λ (b : Bool). has m j && b) (has-one i j) ∙ h j)
 
 only : (m i j : ℕ) → (x : Bool) → has m i ≡ x → Is (same j i) → (has m j && same j i) ≡ (x && same j i)

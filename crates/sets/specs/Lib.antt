@@ -1,7 +1,9 @@
-pub mod Count
-pub mod Each
-pub mod Every
+pub mod CountLaws
+pub mod EachLaws
+pub mod EveryLaws
 pub mod Laws
+pub mod Lists
 pub mod Set
 pub mod Tests
 pub mod Truth
+pub mod TruthLaws

@@ -1,9 +1,10 @@
--- Sets of processes (document 01: sets of terminals, and present marks): bit i of a 16-bit number says whether process i, counted from 0, is in.
+-- Sets of processes (document 01: sets of terminals, and present marks): bit i of a 16-bit number says whether
+-- process i, counted from 0, is in.
 use mathlib.Core.Bool.{Bool}
 use Prim.Native.Nat.{ℕ, _-_, _/_, _%_, _^_}
 use lib.Bits.{bitAnd, bitOr, bitXor}
 use lib.Count.{ones}
-use Rattle.sets.specs.Truth.{same}
+use Rattle.sets.specs.Truth.{same, below}
 
 -- i is in the set m
 unfoldable pub has : ℕ → ℕ → Bool
@@ -35,3 +36,7 @@ emptySet = 0
 -- how many members
 unfoldable pub sizeOf : ℕ → ℕ
 sizeOf m = ones m
+
+-- no member at or past n
+unfoldable pub within : ℕ → ℕ → Bool
+within n m = below m (2 ^ n)

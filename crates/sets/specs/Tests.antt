@@ -6,7 +6,8 @@ use Prim.Native.Nat.{ℕ, _+_}
 use native.Mathlib.Omega.{arith}
 use lib.Dec.{leb}
 use borrow.Author.Tests.{leb-true, le-leb}
-use Rattle.sets.specs.Truth.{_&&_, _||_, below, both-ways, below-on, below-mk}
+use Rattle.sets.specs.Truth.{_&&_, _||_, below}
+use Rattle.sets.specs.TruthLaws.{both-ways, below-on, below-mk}
 
 and-is : (a b : Bool) → core._&&_ a b ≡ (a && b)
 unfolding _&&_

@@ -1,11 +1,7 @@
--- Boolean tests that stay shut, with the laws that proofs use of them: so that a test's parts can be named by a proof.
-use mathlib.Core.Path.{_≡_, refl, sym, ap, _∙_}
-use mathlib.Core.Logic.{_≢_, _⊎_, inl, inr}
-use mathlib.Core.Bool.{Bool, true, false, not, true≢false}
-use Prim.Native.Nat.{ℕ, zero, suc, _+_, _≤_, _<_}
-use native.Mathlib.Decide.{ℕ-discrete, decLe}
-use native.Mathlib.Omega.{arith}
-use lib.Dec.{eqb, ltb, eqb→eq, eqb-refl, ltb→lt, lt→ltb, T}
+-- Tests, and choices by a test. They stay shut, so that a proof can name a test's parts.
+use mathlib.Core.Bool.{Bool, true, false}
+use Prim.Native.Nat.{ℕ, _+_}
+use lib.Dec.{eqb, ltb}
 
 infixr 35 _&&_
 infixr 30 _||_
@@ -24,173 +20,20 @@ same x y = eqb x y
 unfoldable pub below : ℕ → ℕ → Bool
 below x y = ltb x y
 
+-- x is a number from 1 to k: so processes are numbered in document 01
+unfoldable pub oneTo : ℕ → ℕ → Bool
+oneTo k x = below 0 x && below x (k + 1)
+
+-- a test as a number
+unfoldable pub bit : Bool → ℕ
+bit true = 1
+bit false = 0
+
 -- one of two, by a test
 unfoldable pub choose {ℓ} : {A : Type ℓ} → Bool → A → A → A
 choose true a b = a
 choose false a b = b
 
--- ---- a Boolean is true or false, with the equation kept
-pub data Is : Bool → Type 0 where
-  on : {b : Bool} → b ≡ true → Is b
-  off : {b : Bool} → b ≡ false → Is b
-
-pub is : (b : Bool) → Is b
-is true = on refl
-is false = off refl
-
-pub clash {ℓ} : {A : Type ℓ} (b : Bool) → b ≡ true → b ≡ false → A
-clash b p q = absurd (true≢false (sym p ∙ q))
-
-pub off-by : (b : Bool) → (b ≡ true → ⊥) → b ≡ false
-off-by true h = absurd (h refl)
-off-by false h = refl
-
--- two tests that imply each other are one
-pub both-ways : (a b : Bool) → (a ≡ true → b ≡ true) → (b ≡ true → a ≡ true) → a ≡ b
-both-ways true b f g = sym (f refl)
-both-ways false true f g = g refl
-both-ways false false f g = refl
-
--- ---- choice
-pub choose-on {ℓ} : {A : Type ℓ} (b : Bool) (x y : A) → b ≡ true → choose b x y ≡ x
-unfolding choose
-choose-on b x y e = rw e
-
-pub choose-off {ℓ} : {A : Type ℓ} (b : Bool) (x y : A) → b ≡ false → choose b x y ≡ y
-unfolding choose
-choose-off b x y e = rw e
-
--- ---- conjunction
-pub and-l : (a b : Bool) → (a && b) ≡ true → a ≡ true
-unfolding _&&_
-and-l true b e = refl
-and-l false b e = e
-
-pub and-r : (a b : Bool) → (a && b) ≡ true → b ≡ true
-unfolding _&&_
-and-r true b e = e
-and-r false b e = clash false e refl
-
-pub and-mk : (a b : Bool) → a ≡ true → b ≡ true → (a && b) ≡ true
-unfolding _&&_
-and-mk a b p q = cc
-
-pub and-off-l : (a b : Bool) → a ≡ false → (a && b) ≡ false
-unfolding _&&_
-and-off-l a b e = cc
-
-pub and-off-r : (a b : Bool) → b ≡ false → (a && b) ≡ false
-unfolding _&&_
-and-off-r true b e = e
-and-off-r false b e = refl
-
-pub and-on-l : (a b : Bool) → a ≡ true → (a && b) ≡ b
-unfolding _&&_
-and-on-l a b e = cc
-
-pub and-on-r : (a b : Bool) → b ≡ true → (a && b) ≡ a
-unfolding _&&_
-and-on-r true b e = e
-and-on-r false b e = refl
-
-pub and-cases : (a b : Bool) → (a && b) ≡ false → (a ≡ false) ⊎ (b ≡ false)
-unfolding _&&_
-and-cases true b e = inr e
-and-cases false b e = inl refl
-
--- ---- disjunction
-pub or-cases : (a b : Bool) → (a || b) ≡ true → (a ≡ true) ⊎ (b ≡ true)
-unfolding _||_
-or-cases true b e = inl refl
-or-cases false b e = inr e
-
-pub or-mk-l : (a b : Bool) → a ≡ true → (a || b) ≡ true
-unfolding _||_
-or-mk-l a b p = cc
-
-pub or-mk-r : (a b : Bool) → b ≡ true → (a || b) ≡ true
-unfolding _||_
-or-mk-r true b p = refl
-or-mk-r false b p = p
-
-pub or-off-l : (a b : Bool) → a ≡ false → (a || b) ≡ b
-unfolding _||_
-or-off-l a b e = cc
-
-pub or-off-r : (a b : Bool) → b ≡ false → (a || b) ≡ a
-unfolding _||_
-or-off-r true b e = refl
-or-off-r false b e = e
-
-pub or-none-l : (a b : Bool) → (a || b) ≡ false → a ≡ false
-unfolding _||_
-or-none-l true b e = e
-or-none-l false b e = refl
-
-pub or-none-r : (a b : Bool) → (a || b) ≡ false → b ≡ false
-unfolding _||_
-or-none-r true b e = clash true refl e
-or-none-r false b e = e
-
--- ---- negation
-pub not-on : (b : Bool) → not b ≡ true → b ≡ false
-not-on true e = sym e
-not-on false e = refl
-
-pub not-off : (b : Bool) → not b ≡ false → b ≡ true
-not-off true e = refl
-not-off false e = sym e
-
--- ---- tests of numbers
-true-of : (b : Bool) → T b → b ≡ true
-true-of true t = refl
-true-of false t = absurd t
-
-pub same-on : (x y : ℕ) → same x y ≡ true → x ≡ y
-unfolding same
-same-on x y e = eqb→eq x y (rw e tt)
-
-pub same-refl : (x : ℕ) → same x x ≡ true
-unfolding same
-same-refl x = true-of (eqb x x) (eqb-refl x)
-
-pub same-mk : (x y : ℕ) → x ≡ y → same x y ≡ true
-same-mk x y e = rw e (same-refl y)
-
-pub same-off : (x y : ℕ) → x ≢ y → same x y ≡ false
-same-off x y h = off-by (same x y) (λ e. h (same-on x y e))
-
-pub same-not : (x y : ℕ) → same x y ≡ false → x ≢ y
-same-not x y e h = clash (same x y) (same-mk x y h) e
-
-pub below-on : (x y : ℕ) → below x y ≡ true → x < y
-unfolding below
-below-on x y e = ltb→lt x y (rw e tt)
-
-pub below-mk : (x y : ℕ) → x < y → below x y ≡ true
-unfolding below
-below-mk x y h = true-of (ltb x y) (lt→ltb x y h)
-
-pub below-not : (x y : ℕ) → below x y ≡ false → y ≤ x
-below-not x y e = go (decLe y x)
-  where
-    go : Dec (y ≤ x) → y ≤ x
-    go (yes h) = h
-    go (no h) = clash (below x y) (below-mk x y (omega arith)) e
-
-pub below-off : (x y : ℕ) → y ≤ x → below x y ≡ false
-below-off x y h = off-by (below x y) (λ e. omega (arith, below-on x y e))
-
-pub eq-or : (x y : ℕ) → (x ≡ y) ⊎ (x ≢ y)
-eq-or x y = go (ℕ-discrete x y)
-  where
-    go : Dec (x ≡ y) → (x ≡ y) ⊎ (x ≢ y)
-    go (yes e) = inl e
-    go (no h) = inr h
-
-pub le-or : (a b : ℕ) → (a ≤ b) ⊎ (b < a)
-le-or a b = go (decLe a b)
-  where
-    go : Dec (a ≤ b) → (a ≤ b) ⊎ (b < a)
-    go (yes h) = inl h
-    go (no h) = inr (omega arith)
+-- a check of document 01's table with its number, and what is checked after it
+unfoldable pub check : Bool → ℕ → ℕ → ℕ
+check passes number rest = choose passes rest number

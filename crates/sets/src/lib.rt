@@ -1,7 +1,10 @@
-// Sets of up to sixteen processes, as the bits of a number: bit i stands for process i, counted from 0.
+// Sets of up to sixteen processes, as the bits of a number: bit i stands for process i,
+// counted from 0. And numbers from 1.
 ghost use mathlib.Core.Path.{_≡_};
 ghost use Prim.Native.Nat.{_<_, _≤_};
-ghost use Rattle.sets.specs.Set.{has, insertOf, removeOf, unionOf, intersectionOf, differenceOf, allOf, emptySet, sizeOf};
+ghost use Rattle.sets.specs.Truth.{oneTo};
+ghost use Rattle.sets.specs.Set.{has, insertOf, removeOf, unionOf, intersectionOf};
+ghost use Rattle.sets.specs.Set.{differenceOf, allOf, emptySet, sizeOf, within};
 
 pub fn empty() -> u16
     ensures { λ r. ⌜ r ≡ emptySet ⌝ }
@@ -61,4 +64,19 @@ pub fn size(m: u16) -> u32
     ensures { λ r. ⌜ r ≡ sizeOf m ⌝ }
 {
     u16::count_ones(m)
+}
+
+// No member at or past n.
+pub fn set_within(n: u8, m: u16) -> bool
+    requires { ⌜ n ≤ 16 ⌝ }
+    ensures { λ r. ⌜ r ≡ within n m ⌝ }
+{
+    (m as u32) < (1u32 << n)
+}
+
+// x is a number from 1 to k.
+pub fn one_to(k: u8, x: u8) -> bool
+    ensures { λ r. ⌜ r ≡ oneTo k x ⌝ }
+{
+    (0 < x) & (x <= k)
 }

@@ -3,22 +3,26 @@ use mathlib.Core.Path.{_≡_, refl}
 use mathlib.Core.List.{List, [], _∷_}
 use Prim.Native.Nat.{ℕ}
 use lib.Count.{ones}
-use Rattle.sets.specs.Count.{bit}
-use Rattle.sets.specs.Each.{each}
-use Rattle.sets.specs.Every.{every as everyBelow}
-use Rattle.sets.specs.Set.{has, insertOf, removeOf, unionOf, intersectionOf, differenceOf, allOf, sizeOf}
-use Rattle.sets.specs.Truth.{_&&_, _||_, same, below, choose}
-use Rattle.global_data.specs.GlobalData.{entryOf, sameEntry, nothingOf, oneOf, filledWord, fillOf, fillFrom, sameTo, allSame}
-use Rattle.process.specs.Steps.{idleOf, hasDecided, takesPart, openOf, startOf, keeps, receiveOf, arrivedOf, dueOf, nextOf, peersOf, filledOf, agreedOf, decidesOf, owedOf, decideOf, advanceOf, closeOf, adoptOf, messageOf, sendOf, suspectOf}
-use Rattle.bench.specs.State.{processAt, sentAt, transitAt, crashedAt, withProcess, withSent, withTransit, withCrashed, openedOf}
-use Rattle.bench.specs.Sound.{opens, every, within, soundData, soundProcess, soundOf}
-use Rattle.bench.specs.Record.{wordOf, isProcess, usesB, usesR, usesValue, fieldB, fieldR, fieldValue, fields, messageFrom, eventOf, partsOf, decodeOf}
-use Rattle.bench.specs.Refuse.{check, numberOf, actor, possible, ready, allowed, refuses, refusesDecoded, refusal}
+use Rattle.sets.specs.Truth.{bit, _&&_, _||_, same, below, choose, oneTo, check}
+use Rattle.sets.specs.Lists.{each, every, everyIn, joined}
+use Rattle.sets.specs.Set.{has, insertOf, removeOf, unionOf, intersectionOf, differenceOf, allOf, sizeOf, within}
+use Rattle.global_data.specs.GlobalData.{entryOf, sameEntry, nothingOf, oneOf}
+use Rattle.global_data.specs.GlobalData.{filledWord, fillOf, fillFrom, sameTo, allSame}
+use Rattle.process.specs.Steps.{idleOf, hasDecided, takesPart, openRoundOf, startOf, keeps, receiveOf}
+use Rattle.process.specs.Steps.{arrivedOf, dueOf, nextOf, peersOf, filledOf, agreedOf, decidesOf, owedOf}
+use Rattle.process.specs.Steps.{decideOf, advanceOf, closeOf, adoptOf, messageOf, sendOf, suspectOf}
+use Rattle.bench.specs.State.{processAt, sentAt, transitAt, crashedAt, withProcess}
+use Rattle.bench.specs.State.{withSent, withTransit, withCrashed, openedOf}
+use Rattle.bench.specs.Sound.{opens, soundData, soundProcess, soundOf}
+use Rattle.bench.specs.Record.{wordOf, usesB, usesR, usesValue, fieldB, fieldR}
+use Rattle.bench.specs.Record.{fieldValue, fields, messageFrom, eventOf, partsOf, decodeOf}
+use Rattle.bench.specs.Refuse.{numberOf, actor, isCrash, passes7, passes8, passes9, refuses, refusesDecoded, refusal}
 use Rattle.bench.specs.Effect.{opensRound, rowsAt, sends, arrives, closesAs, effect, effectDecoded, effectOf}
-use Rattle.bench.specs.Calls.{openOf as openBench, after, joined}
-use Rattle.bench.specs.RunLaws.{restOf, recordAt, steps}
+use Rattle.bench.specs.Calls.{openOf as openBench, afterRecord}
+use Rattle.bench.specs.OneByOne.{restOf, recordAt, steps}
 use Rattle.text.specs.Text.{digits, decimal, field, lineOf, entryText, processText, processesText}
-use Rattle.simulate.specs.Output.{openingRefusal, unopened, openingOf, recordsIn, answerAt, lineAt, linesOf, afterAll, writtenAfter, outputOf}
+use Rattle.simulate.specs.Output.{openingRefusal, unopened, openingOf, recordsIn, answerAt}
+use Rattle.simulate.specs.Output.{lineAt, linesOf, afterAll, writtenAfter, outputOf}
 
 -- the opening record and the twelve
 pub input : List ℕ
@@ -56,6 +60,14 @@ output =
 
 pub case4 : outputOf input ≡ output
 unfolding input output digits decimal field lineOf entryText processText processesText bit
-    openingRefusal unopened openingOf recordsIn answerAt lineAt linesOf afterAll writtenAfter outputOf joined openBench restOf recordAt steps
-    has insertOf removeOf unionOf intersectionOf differenceOf allOf sizeOf ones _&&_ _||_ same below choose entryOf sameEntry each everyBelow nothingOf oneOf filledWord fillOf fillFrom sameTo allSame idleOf hasDecided takesPart openOf startOf keeps receiveOf arrivedOf dueOf nextOf peersOf filledOf agreedOf decidesOf owedOf decideOf advanceOf closeOf adoptOf messageOf sendOf suspectOf processAt sentAt transitAt crashedAt withProcess withSent withTransit withCrashed openedOf opens every within soundData soundProcess soundOf wordOf isProcess usesB usesR usesValue fieldB fieldR fieldValue fields messageFrom eventOf partsOf decodeOf check numberOf actor possible ready allowed refuses refusesDecoded refusal opensRound rowsAt sends arrives closesAs effect effectDecoded effectOf after
+    openingRefusal unopened openingOf recordsIn answerAt lineAt linesOf afterAll writtenAfter outputOf joined openBench
+    restOf recordAt steps
+    has insertOf removeOf unionOf intersectionOf differenceOf allOf sizeOf ones _&&_ _||_ same below choose entryOf
+    sameEntry each every nothingOf oneOf filledWord fillOf fillFrom sameTo allSame idleOf hasDecided takesPart
+    openRoundOf startOf keeps receiveOf arrivedOf dueOf nextOf peersOf filledOf agreedOf decidesOf owedOf decideOf
+    advanceOf closeOf adoptOf messageOf sendOf suspectOf processAt sentAt transitAt crashedAt withProcess withSent
+    withTransit withCrashed openedOf opens everyIn within soundData soundProcess soundOf wordOf oneTo usesB usesR
+    usesValue fieldB fieldR fieldValue fields messageFrom eventOf partsOf decodeOf check numberOf actor isCrash passes7
+    passes8 passes9 refuses refusesDecoded refusal opensRound rowsAt sends arrives closesAs effect effectDecoded
+    effectOf afterRecord
 case4 = refl

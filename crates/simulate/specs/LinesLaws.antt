@@ -1,5 +1,6 @@
--- Laws of the lines: records taken by runs give the lines of the records one by one. A run's accepted records have the answer 0, the one
--- that it refuses has the cause's number and leaves the bench as it is, and the next run begins after it.
+-- Laws of the lines: records taken by runs give the lines of the records one by one.
+-- A run's accepted records have the answer 0, the one that it refuses has the cause's number and leaves the bench as
+-- it is, and the next run begins after it.
 use mathlib.Core.Path.{_≡_, refl, sym, ap, ap₂, _∙_}
 use mathlib.Core.Logic.{_≢_}
 use mathlib.Core.Bool.{true}
@@ -9,7 +10,7 @@ use native.Mathlib.Nat.{add-zero}
 use native.Mathlib.Omega.{arith}
 use lib.ListN.{length, take, drop, length-append, length-drop}
 use lib.Seq.{drop-drop, drop-at, take-all, take-append-le, drop-append-le}
-use Rattle.sets.specs.Truth.{Is, on, off, is}
+use Rattle.sets.specs.TruthLaws.{Is, on, off, is}
 use Rattle.bench.specs.declared.Bench.{Bench}
 use Rattle.bench.specs.declared.Ended.{Ended}
 use Rattle.bench.specs.declared.Cause.{Cause}
@@ -17,8 +18,10 @@ use Rattle.bench.specs.declared.Cause.the-variants.{Empty, Spent, Refused}
 use Rattle.bench.specs.Sound.{soundOf}
 use Rattle.bench.specs.Refuse.{refusal}
 use Rattle.bench.specs.RefuseLaws.{refusal-damaged, refused-keeps}
-use Rattle.bench.specs.Calls.{refused, after, joined, endedOf, runFrom, runOf}
-use Rattle.bench.specs.RunLaws.{run-damaged, run-sound, run-refused, restOf, recordAt, steps, Why, Runs, runs, sound-steps}
+use Rattle.bench.specs.Calls.{refused, afterRecord, endedOf, runFrom, runOf}
+use Rattle.sets.specs.Lists.{joined}
+use Rattle.bench.specs.RunLaws.{run-damaged, run-sound, run-refused, Why, Runs, runs, sound-steps}
+use Rattle.bench.specs.OneByOne.{restOf, recordAt, steps}
 use Rattle.text.specs.Text.{lineOf, processesText}
 use Rattle.simulate.specs.Output.{recordsIn, answerAt, lineAt, linesOf, afterAll}
 
@@ -47,9 +50,10 @@ steps-add zero j s l = let e : 0 + j ≡ j = omega arith in rw e
 steps-add (suc i) j s l =
     let e : suc i + j ≡ suc (i + j) = omega arith in
     let d : 8 + 8 * i ≡ 8 * suc i = omega arith in
-    rw e (steps-add i j (after s (take 8 l)) (drop 8 l) ∙ rw (drop-drop (8 * i) 8 l, d))
+    rw e (steps-add i j (afterRecord s (take 8 l)) (drop 8 l) ∙ rw (drop-drop (8 * i) 8 l, d))
 
-pub answer-add : (i j : ℕ) (s : Bench) (l : List ℕ) → answerAt s l (i + j) ≡ refusal (steps j (steps i s l) (restOf i l)) (recordAt j (restOf i l))
+pub answer-add : (i j : ℕ) (s : Bench) (l : List ℕ)
+    → answerAt s l (i + j) ≡ refusal (steps j (steps i s l) (restOf i l)) (recordAt j (restOf i l))
 unfolding answerAt recordAt
 answer-add i j s l = rw (steps-add i j s l, rest-add i j l)
 
@@ -59,13 +63,15 @@ unfolding steps
 steps-front zero s l m h = refl
 steps-front (suc i) s l m h =
     let f : 8 ≤ length l = omega arith in
-    rw (take-append-le 8 l m f, drop-append-le 8 l m f) (steps-front i (after s (take 8 l)) (drop 8 l) m (omega (arith, length-drop 8 l)))
+    rw (take-append-le 8 l m f, drop-append-le 8 l m f)
+    (steps-front i (afterRecord s (take 8 l)) (drop 8 l) m (omega (arith, length-drop 8 l)))
 
 pub answer-front : (i : ℕ) (s : Bench) (l m : List ℕ) → 8 * (i + 1) ≤ length l → answerAt s (l ++ m) i ≡ answerAt s l i
 unfolding answerAt recordAt restOf
 answer-front i s l m h =
     let d : drop (8 * i) (l ++ m) ≡ drop (8 * i) l ++ m = drop-append-le (8 * i) l m (omega arith) in
-    let t : take 8 (drop (8 * i) l ++ m) ≡ take 8 (drop (8 * i) l) = take-append-le 8 (drop (8 * i) l) m (omega (arith, length-drop (8 * i) l)) in
+    let t : take 8 (drop (8 * i) l ++ m) ≡ take 8 (drop (8 * i) l) =
+    take-append-le 8 (drop (8 * i) l) m (omega (arith, length-drop (8 * i) l)) in
     rw (steps-front i s l m (omega arith), d, t)
 
 rest-length : (i : ℕ) (l : List ℕ) → length (restOf i l) ≡ length l - 8 * i
@@ -73,7 +79,8 @@ unfolding restOf
 rest-length i l = length-drop (8 * i) l
 
 -- ---- a run of some records with some budget, damaged or not
-run-some : (budget : ℕ) (l : List ℕ) (s : Bench) → length l ≢ 0 → budget ≢ 0 → runOf budget l s ≡ runFrom budget l s 0 0
+run-some : (budget : ℕ) (l : List ℕ) (s : Bench) → length l ≢ 0 → budget ≢ 0
+    → runOf budget l s ≡ runFrom budget l s 0 0
 run-some budget l s h b = go (is (soundOf s))
   where
     go : Is (soundOf s) → runOf budget l s ≡ runFrom budget l s 0 0
@@ -104,17 +111,20 @@ pub record Taken (b : Bench) (first : ℕ) (l : List ℕ) (i : ℕ) (e : Ended) 
   pub state : e .bench ≡ steps (i + (e .accepted + refusedIn (e .cause))) b l
   pub text :
       joined (i + (e .accepted + refusedIn (e .cause))) (lineAt b first l)
-      ≡ joined i (lineAt b first l) ++ (acceptedText (first + i) (e .accepted) ++ causeText (first + i + e .accepted) (e .cause))
+      ≡ joined i (lineAt b first l)
+      ++ (acceptedText (first + i) (e .accepted) ++ causeText (first + i + e .accepted) (e .cause))
 
 module _ (b : Bench) (first : ℕ) (l : List ℕ) (i : ℕ) where
   -- k more that are accepted
-  accepted-lines : (k : ℕ) → ((j : ℕ) → j < k → refusal (steps j (steps i b l) (restOf i l)) (recordAt j (restOf i l)) ≡ 0)
+  accepted-lines : (k : ℕ)
+      → ((j : ℕ) → j < k → refusal (steps j (steps i b l) (restOf i l)) (recordAt j (restOf i l)) ≡ 0)
       → joined (i + k) (lineAt b first l) ≡ joined i (lineAt b first l) ++ acceptedText (first + i) k
   unfolding acceptedText lineAt
   accepted-lines k h =
       joined-add (lineAt b first l) i k
       ∙ ap (λ (t : List ℕ). joined i (lineAt b first l) ++ t)
-      (joined-same (λ j. lineAt b first l (i + j)) (λ j. lineOf (first + i + j) 0) k (λ j g. line j (answer-add i j b l ∙ h j g)))
+      (joined-same (λ j. lineAt b first l (i + j)) (λ j. lineOf (first + i + j) 0) k
+      (λ j g. line j (answer-add i j b l ∙ h j g)))
     where
       line : (j : ℕ) → answerAt b l (i + j) ≡ 0 → lineAt b first l (i + j) ≡ lineOf (first + i + j) 0
       line j z = let e : first + (i + j) ≡ first + i + j = omega arith in rw (z, e)
@@ -133,7 +143,8 @@ module _ (b : Bench) (first : ℕ) (l : List ℕ) (i : ℕ) where
           state = rw y (sym (steps-add i k b l));
           text =
               rw (y, e (first + i + k))
-              (accepted-lines k h ∙ ap (λ (t : List ℕ). joined i (lineAt b first l) ++ t) (sym (append-nil (acceptedText (first + i) k))));
+              (accepted-lines k h
+              ∙ ap (λ (t : List ℕ). joined i (lineAt b first l) ++ t) (sym (append-nil (acceptedText (first + i) k))));
         }
 
     -- the next one is
@@ -144,7 +155,8 @@ module _ (b : Bench) (first : ℕ) (l : List ℕ) (i : ℕ) where
     taken-refused r g e z =
         let y : i + (k + 1) ≡ suc (i + k) = omega arith in
         let x : first + (i + k) ≡ first + i + k = omega arith in
-        let keeps = refused-keeps (steps k (steps i b l) (restOf i l)) (take 8 (restOf k (restOf i l))) (λ q. z (sym e ∙ q)) in
+        let keeps =
+        refused-keeps (steps k (steps i b l) (restOf i l)) (take 8 (restOf k (restOf i l))) (λ q. z (sym e ∙ q)) in
         record {
           fits = omega (arith, rest-length i l, rest-length k (restOf i l));
           some = omega arith;
@@ -161,7 +173,8 @@ module _ (b : Bench) (first : ℕ) (l : List ℕ) (i : ℕ) where
       let some : length (restOf i l) ≢ 0 = λ z. omega (arith, rest-length i l) in
       let w = runs budget (restOf i l) (steps i b l) 0 0 in
       let z : 0 + w .k ≡ w .k = omega arith in
-      rw (run-some budget (restOf i l) (steps i b l) some (λ z. omega arith), w .gives, z) (go some w (w .cause) (w .why))
+      rw (run-some budget (restOf i l) (steps i b l) some (λ z. omega arith), w .gives, z)
+      (go some w (w .cause) (w .why))
     where
       go : length (restOf i l) ≢ 0 → (w : Runs budget (restOf i l) (steps i b l) 0 0) (c : Cause)
           → Why (budget - w .k) (restOf (w .k) (restOf i l)) (steps (w .k) (steps i b l) (restOf i l)) c
@@ -184,7 +197,8 @@ module _ (b : Bench) (first : ℕ) (l : List ℕ) (i : ℕ) where
       take-all (length l - 8 * i) (drop (8 * i) l) (omega (arith, length-drop (8 * i) l)) in
       rw (q, p, z, w) (taken budget o m)
 
--- ---- whole records, and then others: the lines and the bench of all of them are those of the second part after the first
+-- ---- whole records, and then others: the lines and the bench of all of them are those of
+-- the second part after the first
 module _ (b : Bench) (first k : ℕ) (l m : List ℕ) (whole : length l ≡ 8 * k) where
   records-append : recordsIn (l ++ m) ≡ k + recordsIn m
   unfolding recordsIn
@@ -205,7 +219,8 @@ module _ (b : Bench) (first k : ℕ) (l m : List ℕ) (whole : length l ≡ 8 * 
   pub after-append : afterAll b (l ++ m) ≡ afterAll (afterAll b l) m
   unfolding afterAll
   after-append =
-      rw records-append (steps-add k (recordsIn m) b (l ++ m)) ∙ ap (λ (s : Bench). steps (recordsIn m) s (restOf k (l ++ m))) after-whole
+      rw records-append (steps-add k (recordsIn m) b (l ++ m))
+      ∙ ap (λ (s : Bench). steps (recordsIn m) s (restOf k (l ++ m))) after-whole
       ∙ rw rest-append
 
   pub lines-append : linesOf b first (l ++ m) ≡ linesOf b first l ++ linesOf (afterAll b l) (first + k) m
@@ -213,7 +228,8 @@ module _ (b : Bench) (first k : ℕ) (l m : List ℕ) (whole : length l ≡ 8 * 
   lines-append =
       rw (records-append, records-whole, joined-add (lineAt b first (l ++ m)) k (recordsIn m))
       (ap₂ _++_ (joined-same (lineAt b first (l ++ m)) (lineAt b first l) k front)
-      (joined-same (λ j. lineAt b first (l ++ m) (k + j)) (lineAt (afterAll b l) (first + k) m) (recordsIn m) (λ j h. back j)))
+      (joined-same (λ j. lineAt b first (l ++ m) (k + j)) (lineAt (afterAll b l) (first + k) m) (recordsIn m)
+      (λ j h. back j)))
     where
       front : (i : ℕ) → i < k → lineAt b first (l ++ m) i ≡ lineAt b first l i
       front i h = ap (lineOf (first + i)) (answer-front i b l m (omega arith))
@@ -242,7 +258,8 @@ pub carried-none : (b : Bench) → Carried b b 1
 unfolding afterAll recordsIn steps
 carried-none b = record { bytes = []; whole = refl; state = refl }
 
-module _ {b s : Bench} {first : ℕ} (c : Carried b s first) (part : List ℕ) (s′ : Bench) (e : s′ ≡ afterAll s part) where
+module _ {b s : Bench} {first : ℕ} (c : Carried b s first) (part : List ℕ) (s′ : Bench)
+    (e : s′ ≡ afterAll s part) where
   carried-state : s′ ≡ afterAll b (c .bytes ++ part)
   carried-state =
       e ∙ ap (λ (s : Bench). afterAll s part) (c .state)
@@ -259,7 +276,8 @@ module _ {b s : Bench} {first : ℕ} (c : Carried b s first) (part : List ℕ) (
         state = carried-state;
       }
 
--- ---- the input in parts, of whole records but for the last: what is written part by part, and the processes then, is what the whole gives
+-- ---- the input in parts, of whole records but for the last: what is written part by part,
+-- and the processes then, is what the whole gives
 unfoldable pub inParts : Bench → ℕ → List (List ℕ) → List ℕ
 inParts b first [] = processesText b
 inParts b first (p ∷ ps) = linesOf b first p ++ inParts (afterAll b p) (first + length p / 8) ps
@@ -280,5 +298,10 @@ in-parts b first [] h = refl
 in-parts b first (p ∷ []) h = rw (append-nil p)
 in-parts b first (p ∷ q ∷ ps) h =
     let rest = together (q ∷ ps) in
-    rw (in-parts (afterAll b p) (first + length p / 8) (q ∷ ps) (h .1), lines-append b first (length p / 8) p rest (h .0), after-append b first (length p / 8) p rest (h .0))
-    (sym (append-assoc (linesOf b first p) (linesOf (afterAll b p) (first + length p / 8) rest) (processesText (afterAll (afterAll b p) rest))))
+    rw (
+      in-parts (afterAll b p) (first + length p / 8) (q ∷ ps) (h .1),
+      lines-append b first (length p / 8) p rest (h .0),
+      after-append b first (length p / 8) p rest (h .0),
+    )
+    (sym (append-assoc (linesOf b first p) (linesOf (afterAll b p) (first + length p / 8) rest)
+    (processesText (afterAll (afterAll b p) rest))))

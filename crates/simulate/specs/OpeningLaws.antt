@@ -6,13 +6,14 @@ use mathlib.Core.Bool.{true, false}
 use Prim.Native.Nat.{ℕ, suc}
 use native.Mathlib.Omega.{arith}
 use lib.ListN.{length, getD}
-use Rattle.sets.specs.Truth.{Is, on, off, is, same, choose-on, choose-off, same-mk, same-off, and-mk, and-off-l, and-off-r}
+use Rattle.sets.specs.TruthLaws.{Is, on, off, is, choose-on, choose-off, same-mk, same-off}
+use Rattle.sets.specs.TruthLaws.{and-mk, and-off-l, and-off-r, check-on, check-off}
+use Rattle.sets.specs.Truth.{same}
 use Rattle.bench.specs.declared.Refusal.{Refusal}
 use Rattle.bench.specs.declared.Answer.the-variants.{Accepted, Refused}
 use Rattle.bench.specs.Sound.{opens, soundOf}
 use Rattle.bench.specs.SoundLaws.{sound-opened}
 use Rattle.bench.specs.Record.{wordOf}
-use Rattle.bench.specs.RefuseLaws.{check-on, check-off}
 use Rattle.bench.specs.Calls.{refused, openOf}
 use Rattle.simulate.specs.Output.{openingRefusal, unopened, openingOf}
 
@@ -35,12 +36,15 @@ module _ (l : List ℕ) where
       unfolding openingRefusal
       opening-r h =
           number 4
-          (check-on _ _ _ (same-mk _ _ s) ∙ check-on _ _ _ (same-mk _ _ k) ∙ check-off _ _ _ (and-off-l _ _ (same-off _ _ h)))
+          (check-on _ _ _ (same-mk _ _ s) ∙ check-on _ _ _ (same-mk _ _ k)
+          ∙ check-off _ _ _ (and-off-l _ _ (same-off _ _ h)))
 
-      pub opening-value : same (wordOf (getD l 4 0) (getD l 5 0) (getD l 6 0) (getD l 7 0)) 0 ≡ false → openingOf l ≡ unopened 5
+      pub opening-value : same (wordOf (getD l 4 0) (getD l 5 0) (getD l 6 0) (getD l 7 0)) 0 ≡ false
+          → openingOf l ≡ unopened 5
       unfolding openingRefusal
       opening-value h =
-          number 4 (check-on _ _ _ (same-mk _ _ s) ∙ check-on _ _ _ (same-mk _ _ k) ∙ check-off _ _ _ (and-off-r _ _ h))
+          number 4
+          (check-on _ _ _ (same-mk _ _ s) ∙ check-on _ _ _ (same-mk _ _ k) ∙ check-off _ _ _ (and-off-r _ _ h))
 
       pub opening-opens : getD l 3 0 ≡ 0 → same (wordOf (getD l 4 0) (getD l 5 0) (getD l 6 0) (getD l 7 0)) 0 ≡ true
           → openingOf l ≡ openOf (getD l 1 0) (getD l 2 0)
@@ -48,7 +52,8 @@ module _ (l : List ℕ) where
       opening-opens r v =
           choose-on _ _ _
           (same-mk _ _
-          (check-on _ _ _ (same-mk _ _ s) ∙ check-on _ _ _ (same-mk _ _ k) ∙ check-on _ _ _ (and-mk _ _ (same-mk _ _ r) v)))
+          (check-on _ _ _ (same-mk _ _ s) ∙ check-on _ _ _ (same-mk _ _ k)
+          ∙ check-on _ _ _ (and-mk _ _ (same-mk _ _ r) v)))
 
 -- ---- what is opened is sound
 refused-not : {A : Type 0} (r : Refusal) → Refused r ≡ Accepted → A
@@ -70,7 +75,9 @@ opening-sound l a = go (is (same (openingRefusal l) 0))
     go (on e) =
         rw (choose-on (same (openingRefusal l) 0) (openOf (getD l 1 0) (getD l 2 0)) (unopened (openingRefusal l)) e)
         (open-sound (getD l 1 0) (getD l 2 0)
-        (rw (choose-on (same (openingRefusal l) 0) (openOf (getD l 1 0) (getD l 2 0)) (unopened (openingRefusal l)) e) at a))
+        (rw (choose-on (same (openingRefusal l) 0) (openOf (getD l 1 0) (getD l 2 0)) (unopened (openingRefusal l)) e)
+        at a))
     go (off e) =
         refused-not (refused (openingRefusal l))
-        (rw (choose-off (same (openingRefusal l) 0) (openOf (getD l 1 0) (getD l 2 0)) (unopened (openingRefusal l)) e) at a)
+        (rw (choose-off (same (openingRefusal l) 0) (openOf (getD l 1 0) (getD l 2 0)) (unopened (openingRefusal l)) e)
+        at a)

@@ -1,18 +1,20 @@
--- What the program writes for any input: the opening record, then the records one by one, each answered at the bench that the ones before it
--- left, then the processes. A refused record leaves the bench as it is, and the next one is taken.
+-- What the program writes for any input: the opening record, then the records one by one,
+-- each answered at the bench that the ones before it left, then the processes.
+-- A refused record leaves the bench as it is, and the next one is taken.
 use mathlib.Core.List.{List, _++_}
 use Prim.Native.Nat.{ℕ, _+_, _/_}
 use lib.ListN.{length, getD, take, drop}
-use Rattle.sets.specs.Truth.{_&&_, same, choose}
+use Rattle.sets.specs.Truth.{_&&_, same, choose, check}
 use Rattle.bench.specs.declared.Bench.{Bench}
 use Rattle.bench.specs.declared.Opened.{Opened}
 use Rattle.bench.specs.declared.Answer.{Answer}
 use Rattle.bench.specs.declared.Answer.the-variants.{Accepted, Refused}
 use Rattle.bench.specs.State.{openedOf}
 use Rattle.bench.specs.Record.{wordOf}
-use Rattle.bench.specs.Refuse.{check, refusal}
-use Rattle.bench.specs.Calls.{refused, joined, openOf}
-use Rattle.bench.specs.RunLaws.{steps, recordAt}
+use Rattle.bench.specs.Refuse.{refusal}
+use Rattle.bench.specs.Calls.{refused, openOf}
+use Rattle.sets.specs.Lists.{joined}
+use Rattle.bench.specs.OneByOne.{steps, recordAt}
 use Rattle.text.specs.Text.{lineOf, processesText}
 
 -- ---- the opening record: 3, 4 (kind not 0), 5 (r or value not 0), or 0

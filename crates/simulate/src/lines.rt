@@ -53,13 +53,14 @@ fn refused_in(cause: Cause) -> usize
     }
 }
 
-// The lines of the records of `chunk`, numbered from `first`, at the start of `out`, and the bench after them. Each run takes records until
-// one is refused, and the next run begins after it.
+// The lines of the records of `chunk`, numbered from `first`, at the start of `out`, and the bench after them.
+// Each run takes records until one is refused, and the next run begins after it.
 pub fn lines(bench: Bench, chunk: &[u8], first: u64, out: &mut [u8]) -> Lined
     requires { ⌜ (first + recordsIn (now chunk) < 2 ^ 64) × (32 * recordsIn (now chunk) ≤ length (now out)) ⌝ }
     ensures { λ r. ⌜ r .bench ≡ afterAll bench (now (chunk .entry)) ⌝ }
     ensures { λ r. ⌜ r .place ≡ length (linesOf bench first (now (chunk .entry))) ⌝ }
-    ensures { λ r. ⌜ now (out .exit) ≡ linesOf bench first (now (chunk .entry)) ++ drop (r .place) (now (out .entry)) ⌝ }
+    ensures { λ r.
+        ⌜ now (out .exit) ≡ linesOf bench first (now (chunk .entry)) ++ drop (r .place) (now (out .entry)) ⌝ }
 {
     let total = (chunk.len() + 7) / 8;
     let mut s = bench;

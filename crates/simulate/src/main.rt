@@ -23,7 +23,8 @@ struct Turn {
     read: usize,
 }
 
-// Fills `input`, which holds whole records, as far as standard input goes, and writes the lines of its records, numbered from `first`.
+// Fills `input`, which holds whole records, as far as standard input goes, and writes the lines of its
+// records, numbered from `first`.
 fn answer_some(bench: Bench, first: u64, input: &mut [u8], out: &mut [u8]) -> Turn
     requires { ⌜ (first ≤ 2 ^ 63) × (length (now input) ≡ 8192) × (length (now out) ≡ 32 * 1024) ⌝ }
     ensures { λ r. ⌜ r .read ≤ 8192 ⌝ }
@@ -40,7 +41,8 @@ fn answer_some(bench: Bench, first: u64, input: &mut [u8], out: &mut [u8]) -> Tu
     Turn { bench: b, read }
 }
 
-// Until standard input ends. A proved loop has to end, and nothing says that the input does, so it ends too at a number that no run reaches.
+// Until standard input ends. A proved loop has to end, and nothing says that the input does,
+// so it ends too at a number that no run reaches.
 fn answer_all(bench: Bench, input: &mut [u8], out: &mut [u8]) -> Bench
     requires { ⌜ (length (now input) ≡ 8192) × (length (now out) ≡ 32 * 1024) ⌝ }
     ensures { λ r. ⌜ Reached bench r ⌝ }

@@ -3,22 +3,17 @@ use bench::Bench;
 use bench::sizes_open;
 use global_data::GlobalData;
 use process::Process;
+use sets::set_within;
 ghost use mathlib.Core.Path.{_≡_};
 ghost use Prim.Native.Nat.{_≤_};
-ghost use Rattle.bench.specs.Sound.{every, within, soundData, soundProcess, soundOf};
+ghost use Rattle.sets.specs.Lists.{everyIn};
+ghost use Rattle.sets.specs.Set.{within};
+ghost use Rattle.bench.specs.Sound.{soundData, soundProcess, soundOf};
 ghost use Rattle.bench.specs.SoundLaws.{soundParts};
-
-// No member at or past n.
-pub fn set_within(n: u8, m: u16) -> bool
-    requires { ⌜ n ≤ 16 ⌝ }
-    ensures { λ r. ⌜ r ≡ within n m ⌝ }
-{
-    (m as u32) < (1u32 << n)
-}
 
 fn sets_within(n: u8, sets: &[u16]) -> bool
     requires { ⌜ n ≤ 16 ⌝ }
-    ensures { λ r. ⌜ r ≡ every (within n) (now (sets .entry)) ⌝ }
+    ensures { λ r. ⌜ r ≡ everyIn (within n) (now (sets .entry)) ⌝ }
 {
     let mut ok = true;
     let mut k = 0;
@@ -45,7 +40,7 @@ fn process_sound(n: u8, t: u8, p: Process) -> bool
 
 fn processes_sound(n: u8, t: u8, processes: [Process; 16]) -> bool
     requires { ⌜ n ≤ 16 ⌝ }
-    ensures { λ r. ⌜ r ≡ every (soundProcess n t) processes ⌝ }
+    ensures { λ r. ⌜ r ≡ everyIn (soundProcess n t) processes ⌝ }
 {
     let mut ok = true;
     let mut k = 0;
@@ -59,7 +54,7 @@ fn processes_sound(n: u8, t: u8, processes: [Process; 16]) -> bool
 
 fn rows_within(n: u8, rows: [GlobalData; 256]) -> bool
     requires { ⌜ n ≤ 16 ⌝ }
-    ensures { λ r. ⌜ r ≡ every (soundData n) rows ⌝ }
+    ensures { λ r. ⌜ r ≡ everyIn (soundData n) rows ⌝ }
 {
     let mut ok = true;
     let mut k = 0;

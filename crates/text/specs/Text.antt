@@ -1,15 +1,17 @@
--- The text that the program writes (document 01, "Lines are .."): numbers in decimal, a record's line and a process's line, in ASCII.
+-- The text that the program writes (document 01, "Lines are .."): numbers in decimal,
+-- a record's line and a process's line, in ASCII.
 use mathlib.Core.Bool.{Bool}
 use mathlib.Core.List.{List, [], _∷_, _++_}
 use Prim.Native.Nat.{ℕ, zero, suc, _+_, _/_, _%_}
-use Rattle.sets.specs.Count.{bit}
-use Rattle.sets.specs.Truth.{below, choose}
-use Rattle.global_data.specs.GlobalData.{Entry, absent, value, entryOf}
+use Rattle.sets.specs.Truth.{bit, below, choose}
+use Rattle.global_data.specs.declared.Entry.{Entry}
+use Rattle.global_data.specs.declared.Entry.the-variants.{Absent, Value}
+use Rattle.global_data.specs.GlobalData.{entryOf}
 use Rattle.process.specs.declared.Process.{Process}
 use Rattle.process.specs.Steps.{hasDecided}
 use Rattle.bench.specs.declared.Bench.{Bench}
 use Rattle.bench.specs.State.{processAt, crashedAt}
-use Rattle.bench.specs.Calls.{joined}
+use Rattle.sets.specs.Lists.{joined}
 
 -- at most k digits of x, the last one last
 unfoldable pub digits : ℕ → ℕ → List ℕ
@@ -33,11 +35,11 @@ lineOf k refusal = decimal k ++ (field refusal ++ newline)
 
 -- an entry after a space; `-` is an absent one
 unfoldable pub entryText : Entry → List ℕ
-entryText absent = 32 ∷ 45 ∷ []
-entryText (value v) = field v
+entryText Absent = 32 ∷ 45 ∷ []
+entryText (Value v) = field v
 
--- the line of process a, from 0, of n: `T`, its number from 1, round, stopped, decided, and the entries of its estimate, which is its decision
--- once it has decided
+-- the line of process a, from 0, of n: `T`, its number from 1, round, stopped, decided,
+-- and the entries of its estimate, which is its decision once it has decided
 unfoldable pub processText : ℕ → ℕ → Bool → Process → List ℕ
 processText n a crashed p =
     (84 ∷ [])

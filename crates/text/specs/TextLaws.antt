@@ -1,4 +1,5 @@
--- Laws of the text: a number's digits by its last one, how many there are, and texts stored one after another in a buffer.
+-- Laws of the text: a number's digits by its last one, how many there are, and texts stored
+-- one after another in a buffer.
 use mathlib.Core.Path.{_≡_, refl, sym, ap, _∙_}
 use mathlib.Core.Logic.{⊎-elim}
 use mathlib.Core.List.{List, [], _∷_, _++_}
@@ -7,8 +8,8 @@ use native.Mathlib.Nat.{mul-suc, mul-le-mul-left}
 use native.Mathlib.Numerals.{add-one}
 use native.Mathlib.Omega.{arith}
 use lib.ListN.{length, set, length-append}
-use Rattle.sets.specs.Truth.{choose-on, choose-off, below-mk, below-off, le-or}
-use Rattle.bench.specs.Calls.{joined}
+use Rattle.sets.specs.TruthLaws.{choose-on, choose-off, below-mk, below-off, le-or}
+use Rattle.sets.specs.Lists.{joined}
 use Rattle.bench.specs.TransitLaws.{Stores, stores-none, stores-length, stores-more}
 use Rattle.text.specs.Text.{digits, decimal}
 
@@ -58,7 +59,8 @@ pair : List ℕ → List ℕ → ℕ → List ℕ
 pair l m zero = l
 pair l m (suc k) = m
 
-pub stores-then : {out out₁ out₂ l m : List ℕ} {at at₁ at₂ : ℕ} → Stores out at l out₁ at₁ → Stores out₁ at₁ m out₂ at₂ → Stores out at (l ++ m) out₂ at₂
+pub stores-then : {out out₁ out₂ l m : List ℕ} {at at₁ at₂ : ℕ} → Stores out at l out₁ at₁ → Stores out₁ at₁ m out₂ at₂
+    → Stores out at (l ++ m) out₂ at₂
 unfolding joined pair
 stores-then {out} {out₁} {out₂} {l} {m} {at} {at₁} {at₂} s t = stores-more (pair l m) out at 1 out₁ at₁ out₂ at₂ s t
 
@@ -67,15 +69,18 @@ pub record Puts (most : ℕ) (out : List ℕ) (at : ℕ) (l out′ : List ℕ) (
   pub stores : Stores out at l out′ at′
   pub short : at′ ≤ at + most
 
-pub puts-length : {most : ℕ} {out l out′ : List ℕ} {at at′ : ℕ} → Puts most out at l out′ at′ → length out′ ≡ length out
+pub puts-length : {most : ℕ} {out l out′ : List ℕ} {at at′ : ℕ} → Puts most out at l out′ at′
+    → length out′ ≡ length out
 puts-length {most} {out} {l} {out′} {at} {at′} p = stores-length out at l out′ at′ (p .stores)
 
 pub puts-none : (out : List ℕ) (at : ℕ) → Puts 0 out at [] out at
 puts-none out at = record { stores = stores-none out at; short = omega arith }
 
 -- a loop's texts f 0, f 1, .. of at most m bytes each
-module _ (m : ℕ) (f : ℕ → List ℕ) {out out₁ : List ℕ} {at at₁ : ℕ} {k : ℕ} (p : Puts (m * k) out at (joined k f) out₁ at₁) where
-  pub puts-more : {out₂ : List ℕ} {at₂ : ℕ} → Puts m out₁ at₁ (f k) out₂ at₂ → Puts (m * (k + 1)) out at (joined (k + 1) f) out₂ at₂
+module _ (m : ℕ) (f : ℕ → List ℕ) {out out₁ : List ℕ} {at at₁ : ℕ} {k : ℕ}
+    (p : Puts (m * k) out at (joined k f) out₁ at₁) where
+  pub puts-more : {out₂ : List ℕ} {at₂ : ℕ} → Puts m out₁ at₁ (f k) out₂ at₂
+      → Puts (m * (k + 1)) out at (joined (k + 1) f) out₂ at₂
   puts-more {out₂} {at₂} q =
       record {
         stores = stores-more f out at k out₁ at₁ out₂ at₂ (p .stores) (q .stores);

@@ -1,4 +1,5 @@
-// Text in a lent buffer: numbers in decimal, and the lines made of them. Each function gives the place after what it wrote.
+// Text in a lent buffer: numbers in decimal, and the lines made of them.
+// Each function gives the place after what it wrote.
 ghost use mathlib.Core.List.{[], _∷_};
 ghost use Prim.Native.Nat.{_+_, _≤_, _<_};
 ghost use lib.ListN.{length};

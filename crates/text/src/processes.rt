@@ -1,4 +1,5 @@
-// The lines of the processes: `T`, number, round, stopped, decided, and the entries of the estimate, which is the decision once it is taken.
+// The lines of the processes: `T`, number, round, stopped, decided, and the entries of the estimate,
+// which is the decision once it is taken.
 use crate::line::put_byte;
 use crate::line::put_field;
 use bench::Bench;
@@ -8,9 +9,9 @@ ghost use mathlib.Core.Path.{_≡_};
 ghost use mathlib.Core.List.{_++_};
 ghost use Prim.Native.Nat.{_+_, _*_, _≤_};
 ghost use lib.ListN.{length, drop};
-ghost use Rattle.sets.specs.Count.{bit};
+ghost use Rattle.sets.specs.Truth.{bit};
 ghost use Rattle.global_data.specs.GlobalData.{entry, entryOf};
-ghost use Rattle.bench.specs.Calls.{joined};
+ghost use Rattle.sets.specs.Lists.{joined};
 ghost use Rattle.text.specs.Text.{entryText, processText, processesText};
 ghost use Rattle.text.specs.TextLaws.{Puts};
 
@@ -29,7 +30,8 @@ fn put_entry(out: &mut [u8], at: usize, present: bool, value: u32) -> usize
 // The entries below n.
 fn put_entries(out: &mut [u8], at: usize, n: u8, g: GlobalData) -> usize
     requires { ⌜ (n ≤ 16) × (at + 11 * n ≤ length (now out)) ⌝ }
-    ensures { λ r. ⌜ Puts (11 * n) (now (out .entry)) at (joined n (λ k. entryText (entryOf g k))) (now (out .exit)) r ⌝ }
+    ensures { λ r.
+        ⌜ Puts (11 * n) (now (out .entry)) at (joined n (λ k. entryText (entryOf g k))) (now (out .exit)) r ⌝ }
 {
     let present = g.present;
     let mut place = at;

@@ -1,4 +1,5 @@
-// The list in transit: each message sent and not arrived, as sender, receiver and round in three bytes; decisions have round 0.
+// The list in transit: each message sent and not arrived, as sender, receiver and round in three
+// bytes; decisions have round 0.
 use bench::Bench;
 use bench::Listed;
 use bench::Refusal;
@@ -6,7 +7,8 @@ use soundness::is_sound;
 ghost use mathlib.Core.Path.{_≡_};
 ghost use Prim.Native.Nat.{ℕ, _+_, _*_, _^_, _≤_, _<_};
 ghost use lib.ListN.{length, getD};
-ghost use Rattle.bench.specs.Calls.{joined, listOf, listedIn};
+ghost use Rattle.sets.specs.Lists.{joined};
+ghost use Rattle.bench.specs.TransitList.{listOf, listedIn};
 ghost use Rattle.bench.specs.TransitLaws.{setBytes, senderBytes, roundBytes, Stores};
 
 // Message r of a to b, where b is in the set m of its receivers. Gives the place after it.
@@ -40,7 +42,8 @@ fn put_set(out: &mut [u8], at: usize, n: u8, m: u16, r: u8, a: u8) -> usize
 
 // Message r of each sender.
 fn put_round(out: &mut [u8], at: usize, n: u8, words: &[u16], r: u8) -> usize
-    requires { ⌜ (n ≤ 16) × (r ≤ 16) × (length (now words) ≡ 272) × (at + length (roundBytes (now words) n r) ≤ length (now out)) ⌝ }
+    requires { ⌜ (n ≤ 16) × (r ≤ 16) × (length (now words) ≡ 272)
+        × (at + length (roundBytes (now words) n r) ≤ length (now out)) ⌝ }
     ensures { λ res. ⌜ Stores (now (out .entry)) at (roundBytes (now (words .entry)) n r) (now (out .exit)) res ⌝ }
 {
     let mut place = at;
@@ -55,8 +58,10 @@ fn put_round(out: &mut [u8], at: usize, n: u8, words: &[u16], r: u8) -> usize
 
 // Every message, in the order of rounds.
 fn put_all(out: &mut [u8], n: u8, t: u8, words: &[u16]) -> usize
-    requires { ⌜ (n ≤ 16) × (t < 16) × (length (now words) ≡ 272) × (length (joined (t + 2) (roundBytes (now words) n)) ≤ length (now out)) ⌝ }
-    ensures { λ res. ⌜ Stores (now (out .entry)) 0 (joined (t + 2) (roundBytes (now (words .entry)) n)) (now (out .exit)) res ⌝ }
+    requires { ⌜ (n ≤ 16) × (t < 16) × (length (now words) ≡ 272)
+        × (length (joined (t + 2) (roundBytes (now words) n)) ≤ length (now out)) ⌝ }
+    ensures { λ res.
+        ⌜ Stores (now (out .entry)) 0 (joined (t + 2) (roundBytes (now (words .entry)) n)) (now (out .exit)) res ⌝ }
 {
     let mut place = 0;
     let mut r = 0u8;

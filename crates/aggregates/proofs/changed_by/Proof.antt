@@ -6,21 +6,11 @@ use Rattle.aggregates.specs.Answers.{gives}
 use Rattle.aggregates.proofs.changed_by.Statement.{statement}
 use Rattle.aggregates.proofs.changed_by.Tie as tie
 
-enum-told : tie.Need-enum-told
-enum-told c = search needs
-
-enum-known-entry : tie.Need-enum-known-entry
-enum-known-entry c = search needs
-
-difference-requires : tie.Need-difference-requires
-difference-requires c κs = search needs
-
-returns : tie.Need-returns
-returns c = cc
-
 returns-2 : tie.Need-returns-2
-returns-2 c = rw (c .before .before .entry .given .1) (ap gives (toZ-ofZ (sfits-of (c .difference .ok)) ∙ c .difference .ensures))
+returns-2 c =
+    rw (c .before .before .entry .given .1)
+    (ap gives (toZ-ofZ (sfits-of (c .difference .ok)) ∙ c .difference .ensures))
 
 pub changed-by-spec : {M : Type 1} → statement M
-changed-by-spec =
-    tie.close (tie.spec enum-told enum-known-entry difference-requires returns returns-2)
+changed-by-spec = tie.close (tie.spec (λ c. search needs) (λ c. search needs) (λ c κs. search needs) (λ c. cc)
+    returns-2)

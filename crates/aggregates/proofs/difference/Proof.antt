@@ -5,17 +5,15 @@ use Rattle.aggregates.specs.Change.{read-signed, change-fits}
 use Rattle.aggregates.proofs.difference.Statement.{statement}
 use Rattle.aggregates.proofs.difference.Tie as tie
 
-cast-result : tie.Need-cast-result
-cast-result c = search needs
-
-cast-result-2 : tie.Need-cast-result-2
-cast-result-2 c = search needs
-
 sub-result : tie.Need-sub-result
-sub-result c = rw (read-signed _ (c .fits .v .fits), read-signed _ (c .fits .standing .fits)) (change-fits _ _ (c .fits .v .fits) (c .fits .standing .fits))
+sub-result c =
+    rw (read-signed _ (c .fits .v .fits), read-signed _ (c .fits .standing .fits))
+    (change-fits _ _ (c .fits .v .fits) (c .fits .standing .fits))
 
 returns : tie.Need-returns
-returns c = rw (read-signed _ (c .fits .v .fits), read-signed _ (c .fits .standing .fits)) (toZ-ofZ (change-fits _ _ (c .fits .v .fits) (c .fits .standing .fits)))
+returns c =
+    rw (read-signed _ (c .fits .v .fits), read-signed _ (c .fits .standing .fits))
+    (toZ-ofZ (change-fits _ _ (c .fits .v .fits) (c .fits .standing .fits)))
 
 pub difference-spec : {M : Type 1} → statement M
-difference-spec = tie.close (tie.spec cast-result cast-result-2 sub-result returns)
+difference-spec = tie.close (tie.spec (λ c. search needs) (λ c. search needs) sub-result returns)

@@ -1,19 +1,10 @@
 -- `entry_at` gives the entry: each branch is one side of the definition's choice, by what `member` ensures.
 use mathlib.Core.Path.{sym, _∙_}
 use borrow.Author.Needs.{needs}
-use Rattle.sets.specs.Truth.{choose-on, choose-off}
+use Rattle.sets.specs.TruthLaws.{choose-on, choose-off}
 use Rattle.aggregates.specs.Entries.{entryAt}
 use Rattle.aggregates.proofs.entry_at.Statement.{statement}
 use Rattle.aggregates.proofs.entry_at.Tie as tie
-
-member-requires : tie.Need-member-requires
-member-requires c κs = search needs
-
-mul-t6 : tie.Need-mul-t6
-mul-t6 c = search needs
-
-shared-slice-read-t8 : tie.Need-shared-slice-read-t8
-shared-slice-read-t8 c = search needs
 
 returns : tie.Need-returns
 unfolding entryAt
@@ -24,4 +15,4 @@ unfolding entryAt
 returns-2 c = sym (choose-off _ _ _ (sym (c .before .member .ensures) ∙ c .if1 .left))
 
 pub entry-at-spec : {M : Type 1} → statement M
-entry-at-spec = tie.close (tie.spec member-requires mul-t6 shared-slice-read-t8 returns returns-2)
+entry-at-spec = tie.close (tie.spec (λ c κs. search needs) (λ c. search needs) (λ c. search needs) returns returns-2)

@@ -4,18 +4,9 @@ use Rattle.sets.specs.Truth.{below}
 use Rattle.aggregates.proofs.is_served.Statement.{statement}
 use Rattle.aggregates.proofs.is_served.Tie as tie
 
-enum-told : tie.Need-enum-told
-enum-told c = search needs
-
-enum-known-entry : tie.Need-enum-known-entry
-enum-known-entry c = search needs
-
-returns : tie.Need-returns
-returns c = search needs
-
 returns-2 : tie.Need-returns-2
 unfolding below
 returns-2 c = rw (c .before .entry .given .1)
 
 pub is-served-spec : {M : Type 1} → statement M
-is-served-spec = tie.close (tie.spec enum-told enum-known-entry returns returns-2)
+is-served-spec = tie.close (tie.spec (λ c. search needs) (λ c. search needs) (λ c. search needs) returns-2)

@@ -4,22 +4,7 @@ use borrow.Author.Needs.{needs}
 use Rattle.answers.proofs.answer_number.Statement.{statement}
 use Rattle.answers.proofs.answer_number.Tie as tie
 
-enum-told : tie.Need-enum-told
-enum-told c = search needs
-
-enum-known-a : tie.Need-enum-known-a
-enum-known-a c = search needs
-
-cast-result : tie.Need-cast-result
-cast-result c = search needs
-
-returns : tie.Need-returns
-unfolding answerNumber
-returns c = rw (c .enum-told .given .1)
-
-returns-2 : tie.Need-returns-2
-unfolding answerNumber
-returns-2 c = rw (c .before .before .a .given .1)
-
 pub answer-number-spec : {M : Type 1} → statement M
-answer-number-spec = tie.close (tie.spec enum-told enum-known-a cast-result returns returns-2)
+unfolding answerNumber
+answer-number-spec = tie.close (tie.spec (λ c. search needs) (λ c. search needs) (λ c. search needs)
+    (λ c. rw (c .enum-told .given .1)) (λ c. rw (c .before .before .a .given .1)))

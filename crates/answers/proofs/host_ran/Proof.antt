@@ -4,12 +4,9 @@ use borrow.Author.Needs.{needs}
 use Rattle.answers.proofs.host_ran.Statement.{statement}
 use Rattle.answers.proofs.host_ran.Tie as tie
 
-cause-number-requires : tie.Need-cause-number-requires
-cause-number-requires c κs = search needs
-
 returns : tie.Need-returns
 unfolding hostRanOf
 returns c = rw (c .cause-number .ensures)
 
 pub host-ran-spec : {M : Type 1} → statement M
-host-ran-spec = tie.close (tie.spec cause-number-requires returns)
+host-ran-spec = tie.close (tie.spec (λ c κs. search needs) returns)

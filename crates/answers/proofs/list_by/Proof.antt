@@ -5,17 +5,11 @@ use borrow.Author.Needs.{needs}
 use Rattle.answers.proofs.list_by.Statement.{statement}
 use Rattle.answers.proofs.list_by.Tie as tie
 
-in-transit-requires : tie.Need-in-transit-requires
-in-transit-requires c κs = search needs
-
-listed-number-requires : tie.Need-listed-number-requires
-listed-number-requires c κs = search needs
-
-same-length : tie.Need-same-length
-same-length c = search needs
-
 returns : tie.Need-returns
-returns c = (c .listed-number .ensures ∙ ap listedNumber (c .before .before .before .in-transit .ensures .0), c .before .before .before .in-transit .ensures .1)
+returns c = (
+  c .listed-number .ensures ∙ ap listedNumber (c .before .before .before .in-transit .ensures .0),
+  c .before .before .before .in-transit .ensures .1,
+)
 
 pub list-by-spec : {M : Type 1} → statement M
-list-by-spec = tie.close (tie.spec in-transit-requires listed-number-requires same-length returns)
+list-by-spec = tie.close (tie.spec (λ c κs. search needs) (λ c κs. search needs) (λ c. search needs) returns)

@@ -4,30 +4,7 @@ use borrow.Author.Needs.{needs}
 use Rattle.answers.proofs.shown_number.Statement.{statement}
 use Rattle.answers.proofs.shown_number.Tie as tie
 
-enum-known-a : tie.Need-enum-known-a
-enum-known-a c = search needs
-
-cast-result : tie.Need-cast-result
-cast-result c = search needs
-
-enum-known-a-2 : tie.Need-enum-known-a-2
-enum-known-a-2 c = search needs
-
-cast-result-2 : tie.Need-cast-result-2
-cast-result-2 c = search needs
-
-mul-result : tie.Need-mul-result
-mul-result c = search needs
-
-returns : tie.Need-returns
-unfolding shownNumber
-returns c = rw (c .before .a .given .1)
-
-returns-2 : tie.Need-returns-2
-unfolding shownNumber
-returns-2 c = rw (c .before .before .a2 .given .1)
-
 pub shown-number-spec : {M : Type 1} → statement M
-shown-number-spec =
-    tie.close
-    (tie.spec enum-known-a cast-result enum-known-a-2 cast-result-2 mul-result returns returns-2)
+unfolding shownNumber
+shown-number-spec = tie.close (tie.spec (λ c. search needs) (λ c. search needs) (λ c. search needs) (λ c. search needs)
+    (λ c. search needs) (λ c. rw (c .before .a .given .1)) (λ c. rw (c .before .before .a2 .given .1)))

@@ -1,12 +1,15 @@
--- `put_entries` writes the entries below n. The loop's invariant: the words below k are those of the entries, the others as they were.
+-- `put_entries` writes the entries below n. The loop's invariant: the words below k are those of the
+-- entries, the others as they were.
 use mathlib.Core.Path.{_≡_, refl, sym, ap, _∙_}
 use mathlib.Core.List.{List, _++_}
 use Prim.Native.Nat.{ℕ, _≤_, _-_}
+use native.Mathlib.Nat.{le-antisymm}
 use native.Mathlib.Omega.{arith}
 use lib.ListN.{length, drop}
 use lib.Seq.{length-front, length-take-le}
 use borrow.Author.Needs.{needs}
-use Rattle.sets.specs.Each.{each, length-each, each-step}
+use Rattle.sets.specs.Lists.{each}
+use Rattle.sets.specs.EachLaws.{length-each, each-step}
 use Rattle.global_data.specs.declared.GlobalData.{GlobalData}
 use Rattle.bench.specs.Calls.{wordAt}
 use Rattle.decision.proofs.put_entries.Statement.{statement}
@@ -19,7 +22,8 @@ abbrev μ-loop : tie.MeasureT-loop
 μ-loop out₀ n g present k₀ out k = n - k
 
 -- entries written at the front leave the length
-length-written : (l : List ℕ) (g : GlobalData) (k : ℕ) (l′ : List ℕ) → k ≤ length l → l′ ≡ each k (wordAt g) ++ drop k l → length l′ ≡ length l
+length-written : (l : List ℕ) (g : GlobalData) (k : ℕ) (l′ : List ℕ) → k ≤ length l
+    → l′ ≡ each k (wordAt g) ++ drop k l → length l′ ≡ length l
 length-written l g k l′ h e =
     ap length e ∙ length-front l (each k (wordAt g)) k (length-each k (wordAt g) ∙ sym (length-take-le k l h))
 
@@ -27,32 +31,11 @@ loop-holds : tie.Need-loop-holds Inv-loop μ-loop
 unfolding each
 loop-holds c = (search needs, refl)
 
-member-requires : tie.Need-member-requires Inv-loop μ-loop
-member-requires c κs = search needs
-
-mul-shown-word : tie.Need-mul-shown-word Inv-loop μ-loop
-mul-shown-word c = search needs
-
-element-copy-out-shown-word : tie.Need-element-copy-out-shown-word Inv-loop μ-loop
-element-copy-out-shown-word c = search needs
-
-shown-word-requires : tie.Need-shown-word-requires Inv-loop μ-loop
-shown-word-requires c κs = search needs
-
-mul-out : tie.Need-mul-out Inv-loop μ-loop
-mul-out c = search needs
-
 slice-write-out : tie.Need-slice-write-out Inv-loop μ-loop
 slice-write-out c =
     let s = c .before .before .before .before .before .before in
     let l = c .before .before .before .before .loop in
     omega (arith, length-written (s .args .out .now) (s .args .t3) (l .k) (l .out) (omega arith) (l .inv .1))
-
-add-k : tie.Need-add-k Inv-loop μ-loop
-add-k c = search needs
-
-loop-less : tie.Need-loop-less Inv-loop μ-loop
-loop-less c = search needs
 
 loop-again : tie.Need-loop-again Inv-loop μ-loop
 unfolding wordAt
@@ -70,26 +53,8 @@ same-length c =
     let l = c .before .loop in
     length-written (s .args .out .now) (s .args .t3) (l .k) (l .out) (omega arith) (l .inv .1)
 
-returns : tie.Need-returns Inv-loop μ-loop
-returns c =
-    let e : c .before .loop .k ≡ c .before .before .before .args .n = search needs in
-    rw (← e) (c .before .loop .inv .1)
-
 pub put-entries-spec : {M : Type 1} → statement M
-put-entries-spec =
-    tie.close
-    (tie.spec
-    Inv-loop
-    μ-loop
-    loop-holds
-    member-requires
-    mul-shown-word
-    element-copy-out-shown-word
-    shown-word-requires
-    mul-out
-    slice-write-out
-    add-k
-    loop-less
-    loop-again
-    same-length
-    returns)
+put-entries-spec = tie.close (tie.spec Inv-loop μ-loop loop-holds (λ c κs. search needs) (λ c. search needs)
+    (λ c. search needs) (λ c κs. search needs) (λ c. search needs) slice-write-out (λ c. search needs)
+    (λ c. search needs) loop-again same-length
+    (λ c. rw (le-antisymm (c .before .loop .inv .0) (c .loop-test .left)) at (c .before .loop .inv .1)))

@@ -1,9 +1,11 @@
--- `same_all` compares the row of each member with g. The loop's invariant: ok says whether those below q are the same as g.
+-- `same_all` compares the row of each member with g. The loop's invariant: ok says whether
+-- those below q are the same as g.
 use mathlib.Core.Path.{_≡_, refl, _∙_}
 use mathlib.Core.Logic.{⊎-elim}
 use Prim.Native.Nat.{_≤_, _-_}
+use native.Mathlib.Nat.{le-antisymm}
 use native.Mathlib.Numerals.{add-one}
-use Rattle.sets.specs.Every.{every}
+use Rattle.sets.specs.Lists.{every}
 use Rattle.sets.specs.Truth.{_&&_, choose}
 use Rattle.global_data.specs.GlobalData.{allSame, rowsOf}
 use borrow.Author.Needs.{needs}
@@ -20,24 +22,6 @@ loop-holds : tie.Need-loop-holds Inv-loop μ-loop
 unfolding allSame every
 loop-holds c = (search needs, refl)
 
-member-requires : tie.Need-member-requires Inv-loop μ-loop
-member-requires c κs = search needs
-
-mul-row : tie.Need-mul-row Inv-loop μ-loop
-mul-row c = search needs
-
-array-copy-out-row : tie.Need-array-copy-out-row Inv-loop μ-loop
-array-copy-out-row c = search needs
-
-same-requires : tie.Need-same-requires Inv-loop μ-loop
-same-requires c κs = search needs
-
-add-q : tie.Need-add-q Inv-loop μ-loop
-add-q c = search needs
-
-loop-less : tie.Need-loop-less Inv-loop μ-loop
-loop-less c = search needs
-
 loop-again : tie.Need-loop-again Inv-loop μ-loop
 unfolding allSame every choose _&&_
 loop-again c =
@@ -45,26 +29,11 @@ loop-again c =
     let v = c .before .before .before .loop .inv .1 in (
       search needs,
       rw add-one
-          (⊎-elim (λ w. rw (← e, w .0 .taken, ← v, ← w .2 .ensures) (w .3)) (λ w. rw (← e, w .0 .left) (w .1 ∙ v)) (c .if1 .came)),
+          (⊎-elim (λ w. rw (← e, w .0 .taken, ← v, ← w .2 .ensures) (w .3)) (λ w. rw (← e, w .0 .left) (w .1 ∙ v))
+          (c .if1 .came)),
     )
 
-returns : tie.Need-returns Inv-loop μ-loop
-returns c =
-    let e : c .before .loop .q ≡ 16 = search needs in
-    rw (c .before .loop .inv .1, e)
-
 pub same-all-spec : {M : Type 1} → statement M
-same-all-spec =
-    tie.close
-    (tie.spec
-    Inv-loop
-    μ-loop
-    loop-holds
-    member-requires
-    mul-row
-    array-copy-out-row
-    same-requires
-    add-q
-    loop-less
-    loop-again
-    returns)
+same-all-spec = tie.close (tie.spec Inv-loop μ-loop loop-holds (λ c κs. search needs) (λ c. search needs)
+    (λ c. search needs) (λ c κs. search needs) (λ c. search needs) (λ c. search needs) loop-again
+    (λ c. rw (le-antisymm (c .before .loop .inv .0) (c .loop-test .left)) at (c .before .loop .inv .1)))

@@ -1,6 +1,7 @@
--- `step` meets its contract: its code is walked by hand, since the tally is a struct behind a `&mut`. It reads the tally, calls `step_counted`,
--- which is covered and does all the work, and stores the new tally. The tally's borrow is opened before the read, stays open over the call,
--- and is closed at the new tally. Plain data owns nothing but facts, so it is dropped and made anew from its relation.
+-- `step` meets its contract: its code is walked by hand, since the tally is a struct behind a `&mut`.
+-- It reads the tally, calls `step_counted`, which is covered and does all the work, and stores the new tally.
+-- The tally's borrow is opened before the read, stays open over the call, and is closed at the new tally.
+-- Plain data owns nothing but facts, so it is dropped and made anew from its relation.
 use mathlib.Core.Path.{_≡_, refl, ap}
 use mathlib.Core.List.{List, [], _∷_}
 use Prim.Native.Nat.{ℕ}
@@ -18,9 +19,11 @@ use ghost.Atoms.{Atoms, sem}
 use contract.Lifetimes.{Lfts}
 use contract.Monad.{Fun, fact}
 use contract.Running.{givenOf, tables, tablesOf}
-use types.Kit.{Given, ‵, raw, _⊛_, ⋆, some, later, _$_, _∵_, !, qed, by, move, keep, drop, use1, use2, split, join, pick, rewrite, fsplit, fsplit3, fjoin, fjoin3, feqI, suffices, frame, await, done}
+use types.Kit.{Given, ‵, raw, _⊛_, ⋆, some, later, _$_, _∵_, !, qed, by, move, keep, drop, use1, use2, split}
+use types.Kit.{join, pick, rewrite, fsplit, fsplit3, fjoin, fjoin3, feqI, suffices, frame, await, done}
 use types.Part.{whole, sub, look-in}
-use types.Run.{look, look-raw, init, store-raw, forget, stop, hop, fld, from, load, of-opd, and-then, no-more, assigns, land, returns, enter, alloc1, alloc0, params1, pass1, pass0, free1, free0}
+use types.Run.{look, look-raw, init, store-raw, forget, stop, hop, fld, from, load, of-opd, and-then}
+use types.Run.{no-more, assigns, land, returns, enter, alloc1, alloc0, params1, pass1, pass0, free1, free0}
 use types.SemTy.{Body}
 use sound.WpLaws.{FmC, fmOf, WpFn-mono}
 use denote.RattleType.{RattleType, owns}
@@ -38,10 +41,11 @@ use denote.Triple.Call.{calls-at}
 use denote.Triple.Entry.{Vals, Args, onEntry}
 use denote.Triple.Spec.{Meets, tripleOf}
 use denote.Triple.Table.{entered, cited}
-use denote.Triple.Walked.{says, Stays, stay-none, stay-none-slice, stay-ref, walkOf, goes-none, goes-none-slice, goes-ref, Walks, ends-at, walked, walk-meets}
+use denote.Triple.Walked.{says, Stays, stay-none, stay-none-slice, stay-ref, walkOf, goes-none}
+use denote.Triple.Walked.{goes-none-slice, goes-ref, Walks, ends-at, walked, walk-meets}
 use denote.Triple.Clauses.{ensured, lasts}
 use denote.Exit.{yes}
-use Rattle.one_record.specs.StepLaws.{countedOf}
+use Rattle.one_record.specs.OneRecord.{countedOf}
 use Rattle.bench.specs.declared.Bench.{Bench}
 use Rattle.bench.specs.declared.Stepped.{Stepped}
 use Rattle.bench.specs.declared.Counters.{Counters}
@@ -85,7 +89,8 @@ module _ {M : Type 1} (𝓤 : URA M) (H : Heap 𝓤) (A : Atoms 𝓤) (at-mem : 
   abbrev Call : Contract 𝓤
   Call = tripleOf 𝓤 H A by-value.signature (by-value.spec 𝓤 H A at-mem exec)
 
-module _ {M : Type 1} (𝓤 : URA M) (H : Heap 𝓤) (A : Atoms 𝓤) (W : Given 𝓤 H A) (at-mem : Memory → SProp 𝓤) (exec : Routine → Fun 𝓤)
+module _ {M : Type 1} (𝓤 : URA M) (H : Heap 𝓤) (A : Atoms 𝓤) (W : Given 𝓤 H A) (at-mem : Memory → SProp 𝓤)
+    (exec : Routine → Fun 𝓤)
     (κ κ′ : Lft) (q q′ : Share) (b : Bench) (l : RefT (List ℕ)) (block offset : ℕ) (γ : GName) (c : Counters)
     (isB : Is bench.the-row b (benchVal b ∷ [])) where
   abbrev κs : Lfts 2
@@ -117,12 +122,14 @@ module _ {M : Type 1} (𝓤 : URA M) (H : Heap 𝓤) (A : Atoms 𝓤) (W : Given
   Borrow = fbor κ′ (Body (mem counters.the-row) block offset γ)
 
   parts : ent 𝓤 (onEntry 𝓤 H A this.signature κs (q, (q′, tt)) given vals)
-      (sep 𝓤 (sem 𝓤 H A (Holds c)) (sep 𝓤 (sem 𝓤 H A Borrow) (sep 𝓤 (A .lft κ′ q′) (sep 𝓤 (A .lft κ q) (sem 𝓤 H A Slice)))))
+      (sep 𝓤 (sem 𝓤 H A (Holds c))
+      (sep 𝓤 (sem 𝓤 H A Borrow) (sep 𝓤 (A .lft κ′ q′) (sep 𝓤 (A .lft κ q) (sem 𝓤 H A Slice)))))
   parts =
       qed W
       ((‵ (flft κ q) ⊛ ‵ (flft κ′ q′) ⊛ ‵ ftrue)
       ∷ ‵ (owns (bench.the-row ∷ Bytes-of ∷ MutRef (named 1) κ′ counters.the-row ∷ []) given vals) ∷ []) ∵
-      split ! $ move ! (2 ∷ []) $ fsplit ! $ drop ! $ fsplit ! $ move ! (1 ∷ []) $ fsplit ! $ fsplit3 ! $ drop ! $ move ! (5 ∷ []) $ split ! $
+      split ! $ move ! (2 ∷ []) $ fsplit ! $ drop ! $ fsplit ! $ move ! (1 ∷ []) $ fsplit ! $ fsplit3 ! $ drop ! $
+      move ! (5 ∷ []) $ split ! $
       keep ! (2 ∷ 3 ∷ 0 ∷ 6 ∷ 5 ∷ []) $ frame ! $ frame ! $ frame ! $ frame ! $ done !
 
   -- ---- the call, with the tally by value
@@ -135,24 +142,31 @@ module _ {M : Type 1} (𝓤 : URA M) (H : Heap 𝓤) (A : Atoms 𝓤) (W : Given
   abbrev to-call : Call 𝓤 H A at-mem exec .Ghost
   to-call = (((κ, tt), (q, tt), tt, passed, passed-vals), tt)
 
-  call-pre : ent 𝓤 (onEntry 𝓤 H A by-value.signature (κ, tt) (q, tt) passed passed-vals) (Call 𝓤 H A at-mem exec .pre to-call)
+  call-pre : ent 𝓤 (onEntry 𝓤 H A by-value.signature (κ, tt) (q, tt) passed passed-vals)
+      (Call 𝓤 H A at-mem exec .pre to-call)
   call-pre =
-      qed W ((‵ (flft κ q) ⊛ ‵ ftrue) ∷ ‵ (owns (bench.the-row ∷ Bytes-of ∷ counters.the-row ∷ []) passed passed-vals) ∷ []) ∵
+      qed W ((‵ (flft κ q) ⊛ ‵ ftrue) ∷ ‵ (owns (bench.the-row ∷ Bytes-of ∷ counters.the-row ∷ []) passed passed-vals)
+      ∷ []) ∵
       join ! $ frame ! $ done !
 
   before-call : Is counters.the-row c (tallyVal c ∷ [])
       → ent 𝓤 (sep 𝓤 (A .lft κ q) (sem 𝓤 H A Slice)) (sep 𝓤 (Call 𝓤 H A at-mem exec .pre to-call) (sem 𝓤 H A Slice))
   before-call isC =
       qed W (‵ (flft κ q) ∷ ‵ Slice ∷ []) ∵
-      move ! (1 ∷ []) $ use1 W (‵ Slice ⊛ ‵ Slice) (shr-slice-copy 𝓤 H A W (named 0) κ u8 .twice l (v ∷ [])) $ split ! $
-      nothing ! $ owned ! counters.the-row (Is counters.the-row) (LL.makes counters.the-type counters-laws.the-plain 𝓤 H A) c _ isC $ fjoin ! $
+      move ! (1 ∷ []) $
+      use1 W (‵ Slice ⊛ ‵ Slice) (shr-slice-copy 𝓤 H A W (named 0) κ u8 .twice l (v ∷ [])) $ split ! $
+      nothing ! $ owned ! counters.the-row (Is counters.the-row)
+      (LL.makes counters.the-type counters-laws.the-plain 𝓤 H A) c _ isC $ fjoin ! $
       move ! (1 ∷ 0 ∷ []) $ fjoin ! $
       owned ! bench.the-row (Is bench.the-row) (LL.makes bench.the-type bench-laws.the-plain 𝓤 H A) b _ isB $ fjoin ! $
-      nothing ! $ move ! (3 ∷ 0 ∷ []) $ join ! $ use2 W (raw (Call 𝓤 H A at-mem exec .pre to-call)) call-pre $ frame ! $ done !
+      nothing ! $ move ! (3 ∷ 0 ∷ []) $ join ! $ use2 W (raw (Call 𝓤 H A at-mem exec .pre to-call)) call-pre $
+      frame ! $ done !
 
   call-said : (r : Counted)
-      → ent 𝓤 (ensured 𝓤 H A by-value.ended (by-value.clauses 𝓤 H A at-mem exec) (κ, tt) passed tt r) (fact 𝓤 (r ≡ countedOf b (now l) c))
-  call-said r = exE 𝓤 _ (λ ws. snd∗ 𝓤 (sem 𝓤 H A (lasts by-value.ended (κ, tt) passed ws)) (fact 𝓤 (r ≡ countedOf b (now l) c)))
+      → ent 𝓤 (ensured 𝓤 H A by-value.ended (by-value.clauses 𝓤 H A at-mem exec) (κ, tt) passed tt r)
+      (fact 𝓤 (r ≡ countedOf b (now l) c))
+  call-said r =
+      exE 𝓤 _ (λ ws. snd∗ 𝓤 (sem 𝓤 H A (lasts by-value.ended (κ, tt) passed ws)) (fact 𝓤 (r ≡ countedOf b (now l) c)))
 
   -- ---- the return
   at-exit : (r : Counted) → r ≡ countedOf b (now l) c → Is stepped.the-row (r .stepped) (steppedVal (r .stepped) ∷ [])
@@ -169,18 +183,23 @@ module _ {M : Type 1} (𝓤 : URA M) (H : Heap 𝓤) (A : Atoms 𝓤) (W : Given
       move ! (3 ∷ []) $ split ! $ move ! (4 ∷ 1 ∷ []) $ join ! $ move ! (1 ∷ 0 ∷ []) $ join ! $ frame ! $
       feqI ! (List Val) (vptr block offset ∷ []) (vptr block offset ∷ []) refl $ fjoin3 ! $ nothing ! $
       move ! (1 ∷ 0 ∷ []) $ fjoin ! $ move ! (1 ∷ 0 ∷ []) $ fjoin ! $
-      owned ! bench.the-row (Is bench.the-row) (LL.makes bench.the-type bench-laws.the-plain 𝓤 H A) b _ isB $ fjoin ! $ frame ! $
-      owned ! stepped.the-row (Is stepped.the-row) (LL.makes stepped.the-type stepped-laws.the-plain 𝓤 H A) (r .stepped) _ isS $ done !
+      owned ! bench.the-row (Is bench.the-row) (LL.makes bench.the-type bench-laws.the-plain 𝓤 H A) b _ isB $
+      fjoin ! $ frame ! $
+      owned ! stepped.the-row (Is stepped.the-row) (LL.makes stepped.the-type stepped-laws.the-plain 𝓤 H A)
+      (r .stepped) _ isS $ done !
 
-  -- ---- the walk. The locals are 0, the result; 1 to 3, the parameters; 4, what the call gives; 5, the tally that is read.
-  module _ (C : Calls 𝓤 H) (Λ : Loops 𝓤 H) (fm : FmC 𝓤 H (W .laws) C) (call-met : Triple 𝓤 (C #step-counted) (Call 𝓤 H A at-mem exec)) where
+  -- ---- the walk. The locals are 0, the result; 1 to 3, the parameters; 4, what the call gives;
+  -- 5, the tally that is read.
+  module _ (C : Calls 𝓤 H) (Λ : Loops 𝓤 H) (fm : FmC 𝓤 H (W .laws) C)
+      (call-met : Triple 𝓤 (C #step-counted) (Call 𝓤 H A at-mem exec)) where
     walk : Is Bytes-of l (v ∷ [])
         → ent 𝓤 (onEntry 𝓤 H A this.signature κs (q, (q′, tt)) given vals)
         (WpFn 𝓤 H C Λ code.function (benchVal b ∷ v ∷ vptr block offset ∷ []) Post)
     walk isL =
         qed W (raw (onEntry 𝓤 H A this.signature κs (q, (q′, tt)) given vals) ∷ []) ∵
         enter ! C Λ code.function (benchVal b ∷ v ∷ vptr block offset ∷ []) _ $
-        alloc1 ! (λ l₀. alloc1 ! (λ l₁. alloc1 ! (λ l₂. alloc1 ! (λ l₃. alloc1 ! (λ l₄. alloc1 ! (λ l₅. alloc0 ! $ params1 ! $
+        alloc1 ! (λ l₀. alloc1 ! (λ l₁. alloc1 ! (λ l₂. alloc1 ! (λ l₃. alloc1 ! (λ l₄. alloc1 ! (λ l₅.
+        alloc0 ! $ params1 ! $
         pass1 ! (init ! 8 refl (LL.lawful bench.the-type bench-laws.the-laws 𝓤 H A W .typed b _ isB .0)) $
         pass1 ! (init ! 6 refl (shr-slice-lawful 𝓤 H A W (named 0) κ u8 .typed l (v ∷ []) isL .0)) $
         pass1 ! (init ! 4 refl (tt, tt)) $ pass0 ! $
@@ -188,33 +207,44 @@ module _ {M : Type 1} (𝓤 : URA M) (H : Heap 𝓤) (A : Atoms 𝓤) (W : Given
         move ! (12 ∷ []) $ use1 W (‵ (Holds c) ⊛ (‵ Borrow ⊛ (‵ (flft κ′ q′) ⊛ (‵ (flft κ q) ⊛ ‵ Slice)))) parts $
         split ! $ move ! (1 ∷ []) $ split ! $ move ! (1 ∷ []) $ split ! $ move ! (3 ∷ 2 ∷ 0 ∷ []) $
         opens ! tt counters.the-row {h = c} block offset (λ vs.
-        spelt ! counters.the-row (Is counters.the-row) (shows 𝓤 H A counters.the-row) (LL.vals counters.the-type counters-laws.the-laws)
+        spelt ! counters.the-row (Is counters.the-row) (shows 𝓤 H A counters.the-row)
+        (LL.vals counters.the-type counters-laws.the-laws)
         (LL.tells counters.the-type counters-laws.the-laws) fullShare c vs block offset $
-        move ! (1 ∷ []) $ facts ! counters.the-row (Is counters.the-row) (shows 𝓤 H A counters.the-row) c (tallyVal c ∷ []) (λ isC.
+        move ! (1 ∷ []) $ facts ! counters.the-row (Is counters.the-row) (shows 𝓤 H A counters.the-row) c
+        (tallyVal c ∷ []) (λ isC.
         -- the tally is read, and the call made
         assigns ! (of-opd ! (load ! (from ! (hop ! (look ! 9 refl) (stop !))) (look-raw ! 0 refl))) (from ! (stop !))
         (init ! 5 refl (LL.lawful counters.the-type counters-laws.the-laws 𝓤 H A W .typed c _ isC .0)) $
         move ! (4 ∷ []) $ use1 W (raw (Call 𝓤 H A at-mem exec .pre to-call) ⊛ ‵ Slice) (before-call isC) $ split ! $
         calls-at ! fm (Call 𝓤 H A at-mem exec) call-met to-call
         (and-then ! (load ! (from ! (stop !)) (look ! 14 refl))
-        (and-then ! (load ! (from ! (stop !)) (look ! 12 refl)) (and-then ! (load ! (from ! (stop !)) (look ! 6 refl)) (no-more !)))) (λ u.
+        (and-then ! (load ! (from ! (stop !)) (look ! 12 refl))
+        (and-then ! (load ! (from ! (stop !)) (look ! 6 refl)) (no-more !)))) (λ u.
         use1 W
         (later (some (λ (r : Counted). ((‵ (flft κ q) ⊛ ‵ ftrue) ⊛ ‵ (counted.the-row .own r (u ∷ [])))
-        ⊛ raw (ensured 𝓤 H A by-value.ended (by-value.clauses 𝓤 H A at-mem exec) (κ, tt) passed tt r)))) (id⊢ 𝓤 _) $ await ! tt $ pick ! (λ r.
+        ⊛ raw (ensured 𝓤 H A by-value.ended (by-value.clauses 𝓤 H A at-mem exec) (κ, tt) passed tt r)))) (id⊢ 𝓤 _) $
+        await ! tt $ pick ! (λ r.
         split ! $ move ! (1 ∷ []) $ use1 W (raw (fact 𝓤 (r ≡ countedOf b (now l) c))) (call-said r) $
         heard ! (r ≡ countedOf b (now l) c) (λ is-meant. split ! $ move ! (1 ∷ []) $
         facts ! counted.the-row (Is counted.the-row) (shows 𝓤 H A counted.the-row) r (u ∷ []) (λ is.
         let fs = LL.owed counted.the-type counted-laws.the-laws r _ is in
-        land ! (from ! (stop !)) (init ! 8 refl (LL.lawful counted.the-type counted-laws.the-laws 𝓤 H A W .typed r _ is .0)) $
-        rewrite ! 8 (λ (w : Val). ‵ (fat fullShare counted-laws.mir l₄ 0 w)) (ap only (LL.tells counted.the-type counted-laws.the-laws r _ is)) refl $
+        land ! (from ! (stop !))
+        (init ! 8 refl (LL.lawful counted.the-type counted-laws.the-laws 𝓤 H A W .typed r _ is .0)) $
+        rewrite ! 8 (λ (w : Val). ‵ (fat fullShare counted-laws.mir l₄ 0 w))
+        (ap only (LL.tells counted.the-type counted-laws.the-laws r _ is)) refl $
         -- the new tally is stored, and the rest is the result
-        assigns ! (of-opd ! (load ! (from ! (fld ! {d = 19752} refl (stop !))) (look-in ! 8 (sub ! 1 {d = 19752} refl (whole !))))) (from ! (hop ! (look ! 10 refl) (stop !)))
-        (store-raw ! 2 refl (LL.lawful counters.the-type counters-laws.the-laws 𝓤 H A W .typed (r .counters) _ (fs .1 .0) .0)) $
-        assigns ! (of-opd ! (load ! (from ! (fld ! {d = 0} refl (stop !))) (look-in ! 8 (sub ! 0 {d = 0} refl (whole !))))) (from ! (stop !))
+        assigns ! (of-opd ! (load ! (from ! (fld ! {d = 19752} refl (stop !)))
+        (look-in ! 8 (sub ! 1 {d = 19752} refl (whole !))))) (from ! (hop ! (look ! 10 refl) (stop !)))
+        (store-raw ! 2 refl
+        (LL.lawful counters.the-type counters-laws.the-laws 𝓤 H A W .typed (r .counters) _ (fs .1 .0) .0)) $
+        assigns !
+        (of-opd ! (load ! (from ! (fld ! {d = 0} refl (stop !))) (look-in ! 8 (sub ! 0 {d = 0} refl (whole !)))))
+        (from ! (stop !))
         (init ! 16 refl (LL.lawful stepped.the-type stepped-laws.the-laws 𝓤 H A W .typed (r .stepped) _ (fs .0) .0)) $
         -- the borrow is closed
         move ! (2 ∷ 3 ∷ 4 ∷ 5 ∷ []) $
-        owned ! counters.the-row (Is counters.the-row) (LL.makes counters.the-type counters-laws.the-plain 𝓤 H A) (r .counters) _ (fs .1 .0) $
+        owned ! counters.the-row (Is counters.the-row) (LL.makes counters.the-type counters-laws.the-plain 𝓤 H A)
+        (r .counters) _ (fs .1 .0) $
         move ! (1 ∷ 0 ∷ []) $ closes ! tt counters.the-row (r .counters) (tallyVal (r .counters) ∷ []) block offset $
         returns ! (look ! 15 refl) $
         forget ! 5 refl $ forget ! 7 refl $ forget ! 9 refl $ forget ! 11 refl $ forget ! 13 refl $ forget ! 15 refl $
@@ -223,7 +253,8 @@ module _ {M : Type 1} (𝓤 : URA M) (H : Heap 𝓤) (A : Atoms 𝓤) (W : Given
         by ! (at-exit r is-meant (fs .0))))))))))))))
 
 -- ---- from the walk to the statement
-module _ {M : Type 1} (𝓤 : URA M) (H : Heap 𝓤) (A : Atoms 𝓤) (W : Given 𝓤 H A) (at-mem : Memory → SProp 𝓤) (exec : Routine → Fun 𝓤) where
+module _ {M : Type 1} (𝓤 : URA M) (H : Heap 𝓤) (A : Atoms 𝓤) (W : Given 𝓤 H A) (at-mem : Memory → SProp 𝓤)
+    (exec : Routine → Fun 𝓤) where
   walks : (C : Calls 𝓤 H) (Λ : Loops 𝓤 H) → FmC 𝓤 H (W .laws) C → Triple 𝓤 (C #step-counted) (Call 𝓤 H A at-mem exec)
       → Walks 𝓤 H A this.ended kept (WpFn 𝓤 H C Λ code.function) (this.clauses 𝓤 H A at-mem exec)
   walks C Λ fm call-met =
@@ -235,7 +266,8 @@ module _ {M : Type 1} (𝓤 : URA M) (H : Heap 𝓤) (A : Atoms 𝓤) (W : Given
       ))
       (λ κs qs bounds a g are.
       via 𝓤 _ (fst∗ 𝓤 _ (emp 𝓤))
-      (walk 𝓤 H A W at-mem exec (κs .0) (κs .1 .0) (qs .0) (qs .1 .0) (a .0) (a .1 .0) (a .1 .1 .0 .ptr .0) (a .1 .1 .0 .ptr .1)
+      (walk 𝓤 H A W at-mem exec (κs .0) (κs .1 .0) (qs .0) (qs .1 .0) (a .0) (a .1 .0) (a .1 .1 .0 .ptr .0)
+      (a .1 .1 .0 .ptr .1)
       (a .1 .1 .0 .name) (a .1 .1 .0 .now) (are .0) C Λ fm call-met (are .1 .0)))
 
   meets : (𝓣 : Tables 𝓤 H) → Triple 𝓤 (𝓣 .C #step-counted) (Call 𝓤 H A at-mem exec)
@@ -243,7 +275,10 @@ module _ {M : Type 1} (𝓤 : URA M) (H : Heap 𝓤) (A : Atoms 𝓤) (W : Given
   meets 𝓣 call-met =
       walk-meets 𝓤 H A this.ended kept W (
         goes-none 𝓤 H A W 2 (λ _. bench.the-row) yes (λ κs x f. refl),
-        (goes-none-slice 𝓤 H A W 2 (0 ∷ []) tt (plain (λ _. u8)) yes, (goes-ref 𝓤 H A W 2 1 tt (plain (λ _. counters.the-row)), tt)),
+        (
+          goes-none-slice 𝓤 H A W 2 (0 ∷ []) tt (plain (λ _. u8)) yes,
+          (goes-ref 𝓤 H A W 2 1 tt (plain (λ _. counters.the-row)), tt),
+        ),
       )
       (this.clauses 𝓤 H A at-mem exec) (WpFn 𝓤 H (𝓣 .C) (𝓣 .Λ) code.function) (WpFn-mono 𝓤 H (W .laws) 𝓣 code.function)
       (walks (𝓣 .C) (𝓣 .Λ) (fmOf 𝓤 H (W .laws) 𝓣) call-met)
@@ -255,4 +290,5 @@ step-spec 𝓤 H 𝓜 𝓖 𝓡 =
     entered 𝓤 H (tripleOf 𝓤 H (𝓖 .A) this.signature (this.spec 𝓤 H (𝓖 .A) (𝓜 .mem) (𝓡 .run)))
     (𝓣 .C) (𝓣 .Λ) #step code.function (code.unfolded 𝓤 H 𝓜 𝓡)
     (meets 𝓤 H (𝓖 .A) (givenOf 𝓤 H 𝓜 𝓖) (𝓜 .mem) (𝓡 .run) (tablesOf 𝓤 H 𝓜 𝓣)
-    (cited 𝓤 H (Call 𝓤 H (𝓖 .A) (𝓜 .mem) (𝓡 .run)) 𝓜 𝓡 code.env #step-counted by-value-symbol.routine code.calls-one-record·step-counted (by-value-met.met 𝓤 H 𝓜 𝓖 𝓡)))
+    (cited 𝓤 H (Call 𝓤 H (𝓖 .A) (𝓜 .mem) (𝓡 .run)) 𝓜 𝓡 code.env #step-counted by-value-symbol.routine
+    code.calls-one-record·step-counted (by-value-met.met 𝓤 H 𝓜 𝓖 𝓡)))

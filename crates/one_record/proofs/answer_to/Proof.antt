@@ -1,19 +1,10 @@
 -- By the cause, and at the end of the schedule by whether a record was accepted.
 use mathlib.Core.Path.{sym}
-use Rattle.sets.specs.Truth.{choose-on, choose-off, same-mk, same-off}
-use Rattle.one_record.specs.StepLaws.{answerTo}
+use Rattle.sets.specs.TruthLaws.{choose-on, choose-off, same-mk, same-off}
+use Rattle.one_record.specs.OneRecord.{answerTo}
 use borrow.Author.Needs.{needs}
 use Rattle.one_record.proofs.answer_to.Statement.{statement}
 use Rattle.one_record.proofs.answer_to.Tie as tie
-
-enum-told : tie.Need-enum-told
-enum-told c = search needs
-
-enum-told-2 : tie.Need-enum-told-2
-enum-told-2 c = search needs
-
-enum-known-cause : tie.Need-enum-known-cause
-enum-known-cause c = search needs
 
 returns : tie.Need-returns
 unfolding answerTo
@@ -32,6 +23,5 @@ unfolding answerTo
 returns-4 c = rw (c .before .cause .given .1)
 
 pub answer-to-spec : {M : Type 1} → statement M
-answer-to-spec =
-    tie.close
-    (tie.spec enum-told enum-told-2 enum-known-cause returns returns-2 returns-3 returns-4)
+answer-to-spec = tie.close (tie.spec (λ c. search needs) (λ c. search needs) (λ c. search needs) returns returns-2
+    returns-3 returns-4)

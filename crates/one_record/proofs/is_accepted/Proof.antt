@@ -1,22 +1,10 @@
 -- By the answer.
-use Rattle.one_record.specs.StepLaws.{isAccepted}
+use Rattle.one_record.specs.OneRecord.{isAccepted}
 use borrow.Author.Needs.{needs}
 use Rattle.one_record.proofs.is_accepted.Statement.{statement}
 use Rattle.one_record.proofs.is_accepted.Tie as tie
 
-enum-told : tie.Need-enum-told
-enum-told c = search needs
-
-enum-told-2 : tie.Need-enum-told-2
-enum-told-2 c = search needs
-
-returns : tie.Need-returns
-unfolding isAccepted
-returns c = rw (c .enum-told .given .1)
-
-returns-2 : tie.Need-returns-2
-unfolding isAccepted
-returns-2 c = rw (c .enum-told2 .given .1)
-
 pub is-accepted-spec : {M : Type 1} → statement M
-is-accepted-spec = tie.close (tie.spec enum-told enum-told-2 returns returns-2)
+unfolding isAccepted
+is-accepted-spec = tie.close (tie.spec (λ c. search needs) (λ c. search needs) (λ c. rw (c .enum-told .given .1))
+    (λ c. rw (c .enum-told2 .given .1)))

@@ -1,6 +1,7 @@
 -- By whether it counts, and whether there is room.
 use mathlib.Core.Path.{sym}
-use Rattle.sets.specs.Truth.{choose-on, choose-off, and-mk, and-off-l, and-off-r, not-on, not-off, below-mk, below-off}
+use Rattle.sets.specs.TruthLaws.{choose-on, choose-off, and-mk, and-off-l}
+use Rattle.sets.specs.TruthLaws.{and-off-r, not-on, not-off, below-mk, below-off}
 use Rattle.bench.specs.Calls.{more}
 use borrow.Author.Needs.{needs}
 use Rattle.one_record.proofs.one_more.Statement.{statement}
@@ -9,9 +10,6 @@ use Rattle.one_record.proofs.one_more.Tie as tie
 returns : tie.Need-returns
 unfolding more
 returns c = sym (choose-off _ _ _ (and-off-l _ _ (not-on _ (c .if1 .taken))))
-
-add-result : tie.Need-add-result
-add-result c = search needs
 
 returns-2 : tie.Need-returns-2
 unfolding more
@@ -22,4 +20,4 @@ unfolding more
 returns-3 c = sym (choose-off _ _ _ (and-off-r _ _ (below-off _ _ (c .if2 .left))))
 
 pub one-more-spec : {M : Type 1} → statement M
-one-more-spec = tie.close (tie.spec returns add-result returns-2 returns-3)
+one-more-spec = tie.close (tie.spec returns (λ c. search needs) returns-2 returns-3)

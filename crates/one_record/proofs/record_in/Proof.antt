@@ -5,8 +5,8 @@ use Prim.Native.Nat.{ℕ, _-_, _≤_}
 use native.Mathlib.Omega.{arith}
 use lib.ListN.{length, take, drop, length-drop, drop-of-length-le}
 use lib.Seq.{take-all}
-use Rattle.sets.specs.Truth.{choose-on, choose-off, same-mk, same-off}
-use Rattle.one_record.specs.StepLaws.{recordIn}
+use Rattle.sets.specs.TruthLaws.{choose-on, choose-off, same-mk, same-off}
+use Rattle.one_record.specs.OneRecord.{recordIn}
 use borrow.Author.Needs.{needs}
 use Rattle.one_record.proofs.record_in.Statement.{statement}
 use Rattle.one_record.proofs.record_in.Tie as tie
@@ -14,16 +14,8 @@ use Rattle.one_record.proofs.record_in.Tie as tie
 from-end : (l : List ℕ) → take (length l - length l) (drop (length l) l) ≡ []
 from-end l =
     let le : length l ≤ length l = omega arith in
-    take-all (length l - length l) (drop (length l) l) (omega (arith, length-drop (length l) l)) ∙ drop-of-length-le l le
-
-sub-result : tie.Need-sub-result
-sub-result c = search needs
-
-part-result-start : tie.Need-part-result-start
-part-result-start c = search needs
-
-part-result-end : tie.Need-part-result-end
-part-result-end c = search needs
+    take-all (length l - length l) (drop (length l) l) (omega (arith, length-drop (length l) l))
+    ∙ drop-of-length-le l le
 
 returns : tie.Need-returns
 unfolding recordIn
@@ -35,4 +27,4 @@ returns-2 c =
     from-end (c .before .before .args .rec .now) ∙ sym (choose-off _ _ _ (same-off _ _ (c .before .if1 .left)))
 
 pub record-in-spec : {M : Type 1} → statement M
-record-in-spec = tie.close (tie.spec sub-result part-result-start part-result-end returns returns-2)
+record-in-spec = tie.close (tie.spec (λ c. search needs) (λ c. search needs) (λ c. search needs) returns returns-2)

@@ -15,24 +15,6 @@ to-end at l = take-all (length l - at) (drop at l) (omega (arith, length-drop at
 past-end : (at : ℕ) (l : List ℕ) → length l ≤ at → drop (length l) l ≡ drop at l
 past-end at l h = let e : length l ≤ length l = omega arith in drop-of-length-le l e ∙ sym (drop-of-length-le l h)
 
-sub-result : tie.Need-sub-result
-sub-result c = search needs
-
-part-result-start : tie.Need-part-result-start
-part-result-start c = search needs
-
-part-result-end : tie.Need-part-result-end
-part-result-end c = search needs
-
-sub-result-2 : tie.Need-sub-result-2
-sub-result-2 c = search needs
-
-part-result-start-2 : tie.Need-part-result-start-2
-part-result-start-2 c = search needs
-
-part-result-end-2 : tie.Need-part-result-end-2
-part-result-end-2 c = search needs
-
 returns : tie.Need-returns
 returns c = let a = c .before .before .args in to-end (a .at) (a .s .now)
 
@@ -42,6 +24,5 @@ returns-2 c =
     to-end (length (a .s .now)) (a .s .now) ∙ past-end (a .at) (a .s .now) (omega (arith, c .before .if1 .left))
 
 pub tail-spec : {M : Type 1} → statement M
-tail-spec =
-    tie.close
-    (tie.spec sub-result part-result-start part-result-end sub-result-2 part-result-start-2 part-result-end-2 returns returns-2)
+tail-spec = tie.close (tie.spec (λ c. search needs) (λ c. search needs) (λ c. search needs) (λ c. search needs)
+    (λ c. search needs) (λ c. search needs) returns returns-2)

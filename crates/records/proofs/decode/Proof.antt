@@ -11,39 +11,6 @@ use borrow.Author.Needs.{needs}
 use Rattle.records.proofs.decode.Statement.{statement}
 use Rattle.records.proofs.decode.Tie as tie
 
-returns : tie.Need-returns
-returns c = sym (decode-size _ _ _ (c .if1 .taken))
-
-shared-slice-read-word : tie.Need-shared-slice-read-word
-shared-slice-read-word c = search needs
-
-shared-slice-read-word-2 : tie.Need-shared-slice-read-word-2
-shared-slice-read-word-2 c = search needs
-
-shared-slice-read-word-3 : tie.Need-shared-slice-read-word-3
-shared-slice-read-word-3 c = search needs
-
-shared-slice-read-word-4 : tie.Need-shared-slice-read-word-4
-shared-slice-read-word-4 c = search needs
-
-word-requires : tie.Need-word-requires
-word-requires c κs = search needs
-
-shared-slice-read-parts : tie.Need-shared-slice-read-parts
-shared-slice-read-parts c = search needs
-
-shared-slice-read-parts-2 : tie.Need-shared-slice-read-parts-2
-shared-slice-read-parts-2 c = search needs
-
-shared-slice-read-parts-3 : tie.Need-shared-slice-read-parts-3
-shared-slice-read-parts-3 c = search needs
-
-shared-slice-read-parts-4 : tie.Need-shared-slice-read-parts-4
-shared-slice-read-parts-4 c = search needs
-
-parts-requires : tie.Need-parts-requires
-parts-requires c κs = search needs
-
 -- the parts of eight bytes, with their value as it was computed
 read : (n t : ℕ) (l : List ℕ) (v : ℕ) (d : Decoded) → length l ≡ 8 → v ≡ valueOf l
     → d ≡ partsOf n t (getD l 0 0) (getD l 1 0) (getD l 2 0) (getD l 3 0) v → d ≡ decodeOf n t l
@@ -57,18 +24,6 @@ returns-2 c =
     read _ _ (now (u .before .before .args .bytes)) _ _ (u .if1 .left) (w .word .ensures) (c .parts .ensures)
 
 pub decode-spec : {M : Type 1} → statement M
-decode-spec =
-    tie.close
-    (tie.spec
-    returns
-    shared-slice-read-word
-    shared-slice-read-word-2
-    shared-slice-read-word-3
-    shared-slice-read-word-4
-    word-requires
-    shared-slice-read-parts
-    shared-slice-read-parts-2
-    shared-slice-read-parts-3
-    shared-slice-read-parts-4
-    parts-requires
-    returns-2)
+decode-spec = tie.close (tie.spec (λ c. sym (decode-size _ _ _ (c .if1 .taken))) (λ c. search needs)
+    (λ c. search needs) (λ c. search needs) (λ c. search needs) (λ c κs. search needs) (λ c. search needs)
+    (λ c. search needs) (λ c. search needs) (λ c. search needs) (λ c κs. search needs) returns-2)

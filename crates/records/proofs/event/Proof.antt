@@ -6,9 +6,6 @@ use borrow.Author.Needs.{needs}
 use Rattle.records.proofs.event.Statement.{statement}
 use Rattle.records.proofs.event.Tie as tie
 
-message-requires : tie.Need-message-requires
-message-requires c κs = search needs
-
 returns : tie.Need-returns
 unfolding eventOf same choose
 returns c = rw (c .match .keys1)
@@ -33,8 +30,13 @@ returns-6 : tie.Need-returns-6
 unfolding eventOf same choose
 returns-6 c =
     let r = c .match .rest in
-    simp (ne-eqb _ _ (r .0 .0 .0 .0 .1), ne-eqb _ _ (r .0 .0 .0 .1), ne-eqb _ _ (r .0 .0 .1), ne-eqb _ _ (r .0 .1), ne-eqb _ _ (r .1))
+    simp (
+      ne-eqb _ _ (r .0 .0 .0 .0 .1),
+      ne-eqb _ _ (r .0 .0 .0 .1),
+      ne-eqb _ _ (r .0 .0 .1),
+      ne-eqb _ _ (r .0 .1),
+      ne-eqb _ _ (r .1),
+    )
 
 pub event-spec : {M : Type 1} → statement M
-event-spec =
-    tie.close (tie.spec message-requires returns returns-2 returns-3 returns-4 returns-5 returns-6)
+event-spec = tie.close (tie.spec (λ c κs. search needs) returns returns-2 returns-3 returns-4 returns-5 returns-6)

@@ -1,28 +1,23 @@
 -- By what the kind uses: the tests of b are those of the definition.
 use mathlib.Core.Path.{_≡_, refl, sym, _∙_}
 use mathlib.Core.Bool.{true, false}
-use Rattle.sets.specs.Truth.{same, choose-on, choose-off}
+use Rattle.sets.specs.Truth.{same}
+use Rattle.sets.specs.TruthLaws.{choose-on, choose-off}
 use Rattle.bench.specs.Record.{usesB, fieldB}
 use Rattle.sets.specs.Tests.{both}
 use borrow.Author.Needs.{needs}
 use Rattle.records.proofs.field_b.Statement.{statement}
 use Rattle.records.proofs.field_b.Tie as tie
 
-uses-b-requires : tie.Need-uses-b-requires
-uses-b-requires c κs = search needs
-
-is-process-requires : tie.Need-is-process-requires
-is-process-requires c κs = search needs
-
 returns : tie.Need-returns
 unfolding fieldB same
 returns c =
     let u : usesB (c .before .before .before .args .kind) ≡ true = cc in
-    both (c .is-process .ensures) refl ∙ sym (choose-on (usesB _) _ _ u)
+    both (c .one-to .ensures) refl ∙ sym (choose-on (usesB _) _ _ u)
 
 returns-2 : tie.Need-returns-2
 unfolding fieldB same
 returns-2 c = let u : usesB (c .before .before .args .kind) ≡ false = cc in sym (choose-off (usesB _) _ _ u)
 
 pub field-b-spec : {M : Type 1} → statement M
-field-b-spec = tie.close (tie.spec uses-b-requires is-process-requires returns returns-2)
+field-b-spec = tie.close (tie.spec (λ c κs. search needs) (λ c κs. search needs) returns returns-2)

@@ -7,18 +7,6 @@ use borrow.Author.Needs.{needs}
 use Rattle.records.proofs.known.Statement.{statement}
 use Rattle.records.proofs.known.Tie as tie
 
-fields-ok-requires : tie.Need-fields-ok-requires
-fields-ok-requires c κs = search needs
-
-from-zero-requires : tie.Need-from-zero-requires
-from-zero-requires c κs = search needs
-
-from-zero-requires-2 : tie.Need-from-zero-requires-2
-from-zero-requires-2 c κs = search needs
-
-event-requires : tie.Need-event-requires
-event-requires c κs = search needs
-
 returns : tie.Need-returns
 returns c =
     let s = c .before .before .before .before .before in
@@ -34,12 +22,5 @@ returns-2 c =
     sym (parts-unfit _ _ _ _ _ _ _ (s .pre) f)
 
 pub known-spec : {M : Type 1} → statement M
-known-spec =
-    tie.close
-    (tie.spec
-    fields-ok-requires
-    from-zero-requires
-    from-zero-requires-2
-    event-requires
-    returns
-    returns-2)
+known-spec = tie.close (tie.spec (λ c κs. search needs) (λ c κs. search needs) (λ c κs. search needs)
+    (λ c κs. search needs) returns returns-2)

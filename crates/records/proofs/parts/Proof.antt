@@ -2,28 +2,11 @@
 use mathlib.Core.Path.{sym}
 use mathlib.Core.Logic.{⊎-elim}
 use native.Mathlib.Omega.{arith}
-use Rattle.sets.specs.Truth.{and-off-l, and-off-r, below-off, le-or}
-use Rattle.bench.specs.RecordLaws.{isKind, kind-on, parts-unknown}
+use Rattle.sets.specs.Truth.{oneTo}
+use Rattle.sets.specs.TruthLaws.{one-mk, and-off-l, and-off-r, below-off, le-or}
+use Rattle.bench.specs.RecordLaws.{parts-unknown}
 use Rattle.records.proofs.parts.Statement.{statement}
 use Rattle.records.proofs.parts.Tie as tie
-
-known-requires : tie.Need-known-requires
-known-requires c κs = kind-on 1 (omega arith) (omega arith)
-
-known-requires-2 : tie.Need-known-requires-2
-known-requires-2 c κs = kind-on 2 (omega arith) (omega arith)
-
-known-requires-3 : tie.Need-known-requires-3
-known-requires-3 c κs = kind-on 3 (omega arith) (omega arith)
-
-known-requires-4 : tie.Need-known-requires-4
-known-requires-4 c κs = kind-on 4 (omega arith) (omega arith)
-
-known-requires-5 : tie.Need-known-requires-5
-known-requires-5 c κs = kind-on 5 (omega arith) (omega arith)
-
-known-requires-6 : tie.Need-known-requires-6
-known-requires-6 c κs = kind-on 6 (omega arith) (omega arith)
 
 returns : tie.Need-returns
 returns c = rw (c .before .match .keys1) (c .known .ensures)
@@ -44,28 +27,19 @@ returns-6 : tie.Need-returns-6
 returns-6 c = rw (c .before .match .keys6) (c .known6 .ensures)
 
 returns-7 : tie.Need-returns-7
-unfolding isKind
+unfolding oneTo
 returns-7 c =
     let k = c .before .args .kind in
     let r = c .match .rest in
     sym (parts-unknown _ _ _ _ _ _ _
     (⊎-elim (λ h. and-off-r _ _ (below-off _ _ h))
-    (λ h. and-off-l _ _ (below-off _ _ (omega (arith, r .0 .0 .0 .0 .0 .1, r .0 .0 .0 .0 .1, r .0 .0 .0 .1, r .0 .0 .1, r .0 .1, r .1)))) (le-or 7 k)))
+    (λ h. and-off-l _ _
+    (below-off _ _ (omega (arith, r .0 .0 .0 .0 .0 .1, r .0 .0 .0 .0 .1, r .0 .0 .0 .1, r .0 .0 .1, r .0 .1, r .1))))
+    (le-or 7 k)))
 
 pub parts-spec : {M : Type 1} → statement M
-parts-spec =
-    tie.close
-    (tie.spec
-    known-requires
-    known-requires-2
-    known-requires-3
-    known-requires-4
-    known-requires-5
-    known-requires-6
-    returns
-    returns-2
-    returns-3
-    returns-4
-    returns-5
-    returns-6
+parts-spec = tie.close (tie.spec (λ c κs. one-mk 6 1 (omega arith) (omega arith))
+    (λ c κs. one-mk 6 2 (omega arith) (omega arith)) (λ c κs. one-mk 6 3 (omega arith) (omega arith))
+    (λ c κs. one-mk 6 4 (omega arith) (omega arith)) (λ c κs. one-mk 6 5 (omega arith) (omega arith))
+    (λ c κs. one-mk 6 6 (omega arith) (omega arith)) returns returns-2 returns-3 returns-4 returns-5 returns-6
     returns-7)

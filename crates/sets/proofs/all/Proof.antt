@@ -9,12 +9,6 @@ use Rattle.sets.specs.Laws.{shifted-one}
 use Rattle.sets.proofs.all.Statement.{statement}
 use Rattle.sets.proofs.all.Tie as tie
 
-cast-result : tie.Need-cast-result
-cast-result c = search needs
-
-shl-result : tie.Need-shl-result
-shl-result c = search needs
-
 power : (n : ℕ) → n ≤ 16 → (1 * 2 ^ n) % 2 ^ 32 ≡ 2 ^ n
 power n h = shifted-one 32 n (omega arith)
 
@@ -29,4 +23,4 @@ unfolding allOf
 returns c = ap (λ (x : ℕ). x - 1) (power (c .args .n) (c .pre))
 
 pub all-spec : {M : Type 1} → statement M
-all-spec = tie.close (tie.spec cast-result shl-result sub-result cast-result-2 returns)
+all-spec = tie.close (tie.spec (λ c. search needs) (λ c. search needs) sub-result cast-result-2 returns)

@@ -8,15 +8,9 @@ use Rattle.sets.specs.Laws.{shifted-one}
 use Rattle.sets.proofs.insert.Statement.{statement}
 use Rattle.sets.proofs.insert.Tie as tie
 
-cast-result : tie.Need-cast-result
-cast-result c = search needs
-
-shl-result : tie.Need-shl-result
-shl-result c = search needs
-
 returns : tie.Need-returns
 unfolding insertOf
 returns c = ap (bitOr (c .args .m)) (shifted-one 16 (c .args .i) (omega arith))
 
 pub insert-spec : {M : Type 1} → statement M
-insert-spec = tie.close (tie.spec cast-result shl-result returns)
+insert-spec = tie.close (tie.spec (λ c. search needs) (λ c. search needs) returns)

@@ -5,15 +5,9 @@ use Rattle.sets.specs.Truth.{same}
 use Rattle.sets.proofs.member.Statement.{statement}
 use Rattle.sets.proofs.member.Tie as tie
 
-cast-result : tie.Need-cast-result
-cast-result c = search needs
-
-shr-result : tie.Need-shr-result
-shr-result c = search needs
-
 returns : tie.Need-returns
 unfolding has same
 returns c = search needs
 
 pub member-spec : {M : Type 1} → statement M
-member-spec = tie.close (tie.spec cast-result shr-result returns)
+member-spec = tie.close (tie.spec (λ c. search needs) (λ c. search needs) returns)

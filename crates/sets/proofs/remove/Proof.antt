@@ -7,15 +7,6 @@ use Rattle.sets.specs.Laws.{shifted-one}
 use Rattle.sets.proofs.remove.Statement.{statement}
 use Rattle.sets.proofs.remove.Tie as tie
 
-cast-difference : tie.Need-cast-difference
-cast-difference c = search needs
-
-shl-difference : tie.Need-shl-difference
-shl-difference c = search needs
-
-difference-requires : tie.Need-difference-requires
-difference-requires c κs = search needs
-
 returns : tie.Need-returns
 unfolding removeOf
 returns c =
@@ -23,4 +14,4 @@ returns c =
     ∙ ap (differenceOf (c .before .args .m)) (shifted-one 16 (c .before .args .i) (omega arith))
 
 pub remove-spec : {M : Type 1} → statement M
-remove-spec = tie.close (tie.spec cast-difference shl-difference difference-requires returns)
+remove-spec = tie.close (tie.spec (λ c. search needs) (λ c. search needs) (λ c κs. search needs) returns)

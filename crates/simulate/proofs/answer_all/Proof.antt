@@ -1,5 +1,5 @@
--- `answer_all` carries the bench over the parts that it reads. The loop's invariant: the parts so far are whole records, s is the bench after
--- them and `first` the number of the next; the buffers keep their lengths.
+-- `answer_all` carries the bench over the parts that it reads. The loop's invariant: the parts so far are whole
+-- records, s is the bench after them and `first` the number of the next; the buffers keep their lengths.
 use mathlib.Core.Path.{_≡_, _∙_}
 use Prim.Native.Nat.{_-_}
 use native.Mathlib.Omega.{arith}
@@ -22,42 +22,46 @@ loop-holds c = (search needs, search needs, carried-none (c .before .before .arg
 
 answer-some-requires : tie.Need-answer-some-requires Inv-loop μ-loop
 answer-some-requires c κs =
-    let l = c .before .before .before .loop in
-    (omega (arith, c .before .before .loop-test .taken), l .inv .0 ∙ c .before .before .before .before .before .before .pre .0, l .inv .1 ∙ c .before .before .before .before .before .before .pre .1)
+    let l = c .before .before .before .loop in (
+      omega (arith, c .before .before .loop-test .taken),
+      l .inv .0 ∙ c .before .before .before .before .before .before .pre .0,
+      l .inv .1 ∙ c .before .before .before .before .before .before .pre .1,
+    )
 
 same-length : tie.Need-same-length Inv-loop μ-loop
-same-length c = c .before .before .before .before .before .before .before .answer-some .kept .1 .1 .0 ∙ c .before .before .before .before .before .before .before .before .before .before .before .loop .inv .0
+same-length c =
+    c .before .before .before .before .before .before .before .answer-some .kept .1 .1 .0
+    ∙ c .before .before .before .before .before .before .before .before .before .before .before .loop .inv .0
 
 same-length-2 : tie.Need-same-length-2 Inv-loop μ-loop
-same-length-2 c = c .before .before .before .before .before .before .before .answer-some .kept .1 .1 .1 .0 ∙ c .before .before .before .before .before .before .before .before .before .before .before .loop .inv .1
+same-length-2 c =
+    c .before .before .before .before .before .before .before .answer-some .kept .1 .1 .1 .0
+    ∙ c .before .before .before .before .before .before .before .before .before .before .before .loop .inv .1
 
 returns : tie.Need-returns Inv-loop μ-loop
 returns c =
     let t = c .before .before .before .before .before .before .before .answer-some in
-    carried-reached (c .before .before .before .before .before .before .before .before .before .before .before .loop .inv .2) (take (t .result .read) (t .last .1 .1 .0)) (t .result .bench) (t .ensures .1 .0)
-
-add-first : tie.Need-add-first Inv-loop μ-loop
-add-first c = search needs
-
-loop-less : tie.Need-loop-less Inv-loop μ-loop
-loop-less c = search needs
+    carried-reached
+    (c .before .before .before .before .before .before .before .before .before .before .before .loop .inv .2)
+    (take (t .result .read) (t .last .1 .1 .0)) (t .result .bench) (t .ensures .1 .0)
 
 loop-again : tie.Need-loop-again Inv-loop μ-loop
 loop-again c =
     let l = c .before .before .before .before .before .before .before .before .before .before .before .loop in
     let t = c .before .before .before .before .before .before .before .answer-some in
     let k = t .kept .1 .1 .0 ∙ l .inv .0 in
-    let full = length-take-le (t .result .read) (t .last .1 .1 .0) (omega (arith, t .ensures .0, k, c .before .before .before .before .before .before .before .before .before .before .before .before .before .before .pre .0)) in (
+    let full = length-take-le (t .result .read) (t .last .1 .1 .0) (omega (
+      arith,
+      t .ensures .0,
+      k,
+      c .before .before .before .before .before .before .before .before .before .before .before .before
+          .before .before .pre .0,
+    )) in (
       k,
       t .kept .1 .1 .1 .0 ∙ l .inv .1,
-      carried-next (l .inv .2) (take (t .result .read) (t .last .1 .1 .0)) (t .result .bench) (t .ensures .1 .0) (omega (arith, full, t .ensures .0, c .if1 .left)),
+      carried-next (l .inv .2) (take (t .result .read) (t .last .1 .1 .0)) (t .result .bench) (t .ensures .1 .0)
+          (omega (arith, full, t .ensures .0, c .if1 .left)),
     )
-
-same-length-3 : tie.Need-same-length-3 Inv-loop μ-loop
-same-length-3 c = c .before .loop .inv .0
-
-same-length-4 : tie.Need-same-length-4 Inv-loop μ-loop
-same-length-4 c = c .before .loop .inv .1
 
 returns-2 : tie.Need-returns-2 Inv-loop μ-loop
 returns-2 c =
@@ -65,19 +69,6 @@ returns-2 c =
     record { bytes = w .bytes; state = w .state }
 
 pub answer-all-spec : {M : Type 1} → statement M
-answer-all-spec =
-    tie.close
-    (tie.spec
-    Inv-loop
-    μ-loop
-    loop-holds
-    answer-some-requires
-    same-length
-    same-length-2
-    returns
-    add-first
-    loop-less
-    loop-again
-    same-length-3
-    same-length-4
+answer-all-spec = tie.close (tie.spec Inv-loop μ-loop loop-holds answer-some-requires same-length same-length-2 returns
+    (λ c. search needs) (λ c. search needs) loop-again (λ c. c .before .loop .inv .0) (λ c. c .before .loop .inv .1)
     returns-2)

@@ -9,57 +9,50 @@ use Rattle.simulate.specs.Output.{recordsIn}
 use Rattle.simulate.proofs.answer_some.Statement.{statement}
 use Rattle.simulate.proofs.answer_some.Tie as tie
 
-read-full-requires : tie.Need-read-full-requires
-read-full-requires c κs = search needs
-
-slice-reshare-prefix-lines : tie.Need-slice-reshare-prefix-lines
-slice-reshare-prefix-lines c = search needs
-
-slice-aggregate-lines : tie.Need-slice-aggregate-lines
-slice-aggregate-lines c = search needs
-
 lines-requires : tie.Need-lines-requires
 unfolding recordsIn
 lines-requires c κs =
-    let r = c .before .before .before .before .read-full in
-    (omega (arith, c .before .before .before .before .before .before .before .before .pre .0, c .before .before .before .before .before .before .before .before .pre .1, r .ensures .0, r .ensures .1, r .kept .1 .0), omega (arith, c .before .before .before .before .before .before .before .before .pre .1, c .before .before .before .before .before .before .before .before .pre .2, r .ensures .0, r .ensures .1, r .kept .1 .0))
+    let r = c .before .before .before .before .read-full in (
+      omega (
+        arith,
+        c .before .before .before .before .before .before .before .before .pre .0,
+        c .before .before .before .before .before .before .before .before .pre .1,
+        r .ensures .0,
+        r .ensures .1,
+        r .kept .1 .0,
+      ),
+      omega (
+        arith,
+        c .before .before .before .before .before .before .before .before .pre .1,
+        c .before .before .before .before .before .before .before .before .pre .2,
+        r .ensures .0,
+        r .ensures .1,
+        r .kept .1 .0,
+      ),
+    )
 
 -- the lines end within the buffer
 within : (c : tie.After-lines) → c .lines .result .place ≤ length (c .lines .last .1 .1 .1 .0)
 within c = omega (arith, c .lines .ensures .1 .0, simp length-append at (ap length (c .lines .ensures .1 .1)))
 
-slice-reshare-prefix-write-all : tie.Need-slice-reshare-prefix-write-all
-slice-reshare-prefix-write-all c = within (c .before .before .before)
-
 slice-aggregate-write-all : tie.Need-slice-aggregate-write-all
 slice-aggregate-write-all c = sym (length-take-le _ _ (within (c .before .before .before .before)))
-
-write-all-requires : tie.Need-write-all-requires
-write-all-requires c κs = search needs
-
-same-length : tie.Need-same-length
-same-length c = search needs
-
-same-length-2 : tie.Need-same-length-2
-same-length-2 c = search needs
 
 returns : tie.Need-returns
 returns c =
     let r = c .before .before .before .before .before .before .before .before .before .before .read-full in
-    let l = c .before .before .before .before .before .lines in
-    (omega (arith, c .before .before .before .before .before .before .before .before .before .before .before .before .before .before .pre .1, r .ensures .0, r .kept .1 .0), (l .ensures .0, rw (← l .ensures .1 .0) (l .ensures .1 .1)))
+    let l = c .before .before .before .before .before .lines in (
+      omega (
+        arith,
+        c .before .before .before .before .before .before .before .before .before .before .before .before
+            .before .before .pre .1,
+        r .ensures .0,
+        r .kept .1 .0,
+      ),
+      (l .ensures .0, rw (← l .ensures .1 .0) (l .ensures .1 .1)),
+    )
 
 pub answer-some-spec : {M : Type 1} → statement M
-answer-some-spec =
-    tie.close
-    (tie.spec
-    read-full-requires
-    slice-reshare-prefix-lines
-    slice-aggregate-lines
-    lines-requires
-    slice-reshare-prefix-write-all
-    slice-aggregate-write-all
-    write-all-requires
-    same-length
-    same-length-2
-    returns)
+answer-some-spec = tie.close (tie.spec (λ c κs. search needs) (λ c. search needs) (λ c. search needs) lines-requires
+    (λ c. within (c .before .before .before)) slice-aggregate-write-all (λ c κs. search needs) (λ c. search needs)
+    (λ c. search needs) returns)

@@ -10,46 +10,29 @@ use Rattle.simulate.specs.LinesLaws.{reached-sound}
 use Rattle.simulate.proofs.simulate.Statement.{statement}
 use Rattle.simulate.proofs.simulate.Tie as tie
 
-answer-all-requires : tie.Need-answer-all-requires
-answer-all-requires c κs = search needs
-
 put-processes-requires : tie.Need-put-processes-requires
 put-processes-requires c κs =
     let a = c .before .before .before .before .before .answer-all in
-    let s = sound-on (a .result) (reached-sound (c .before .before .before .before .before .before .before .before .before .before .args .bench) (a .result) (a .ensures) (c .before .before .before .before .before .before .before .before .before .before .pre .0)) in
-    (omega (arith, s .few), omega (arith, c .before .before .before .before .before .before .before .before .before .before .pre .1 .1, a .kept .1 .1 .0))
+    let s = sound-on (a .result)
+    (reached-sound (c .before .before .before .before .before .before .before .before .before .before .args .bench)
+    (a .result) (a .ensures)
+    (c .before .before .before .before .before .before .before .before .before .before .pre .0)) in (
+      omega (arith, s .few),
+      omega (
+        arith,
+        c .before .before .before .before .before .before .before .before .before .before .pre .1 .1,
+        a .kept .1 .1 .0,
+      ),
+    )
 
 -- the lines end within the buffer
 within : (c : tie.After-put-processes) → c .put-processes .result ≤ length (c .put-processes .last .1 .0)
-within c = omega (arith, c .put-processes .ensures .0, simp length-append at (ap length (c .put-processes .ensures .1)))
-
-slice-reshare-prefix-write-all : tie.Need-slice-reshare-prefix-write-all
-slice-reshare-prefix-write-all c = within (c .before .before)
+within c =
+    omega (arith, c .put-processes .ensures .0, simp length-append at (ap length (c .put-processes .ensures .1)))
 
 slice-aggregate-write-all : tie.Need-slice-aggregate-write-all
 slice-aggregate-write-all c = sym (length-take-le _ _ (within (c .before .before .before)))
 
-write-all-requires : tie.Need-write-all-requires
-write-all-requires c κs = search needs
-
-same-length : tie.Need-same-length
-same-length c = search needs
-
-same-length-2 : tie.Need-same-length-2
-same-length-2 c = search needs
-
-returns : tie.Need-returns
-returns c = search needs
-
 pub simulate-spec : {M : Type 1} → statement M
-simulate-spec =
-    tie.close
-    (tie.spec
-    answer-all-requires
-    put-processes-requires
-    slice-reshare-prefix-write-all
-    slice-aggregate-write-all
-    write-all-requires
-    same-length
-    same-length-2
-    returns)
+simulate-spec = tie.close (tie.spec (λ c κs. search needs) put-processes-requires (λ c. within (c .before .before))
+    slice-aggregate-write-all (λ c κs. search needs) (λ c. search needs) (λ c. search needs) (λ c. search needs))

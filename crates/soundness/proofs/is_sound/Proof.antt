@@ -1,13 +1,10 @@
 -- Soundness in its two parts: all but the rows, then the rows.
 use mathlib.Core.Path.{sym, _∙_}
 use borrow.Author.Needs.{needs}
-use Rattle.sets.specs.Truth.{not-on, not-off}
+use Rattle.sets.specs.TruthLaws.{not-on, not-off}
 use Rattle.bench.specs.SoundLaws.{parts-small, sound-off, sound-rows}
 use Rattle.soundness.proofs.is_sound.Statement.{statement}
 use Rattle.soundness.proofs.is_sound.Tie as tie
-
-parts-sound-requires : tie.Need-parts-sound-requires
-parts-sound-requires c κs = search needs
 
 returns : tie.Need-returns
 returns c =
@@ -21,7 +18,8 @@ rows-within-requires c κs =
 returns-2 : tie.Need-returns-2
 returns-2 c =
     let p = c .before .before .before .parts-sound in
-    c .rows-within .ensures ∙ sym (sound-rows _ (sym (p .ensures) ∙ not-off (p .result) (c .before .before .if1 .left)))
+    c .rows-within .ensures
+    ∙ sym (sound-rows _ (sym (p .ensures) ∙ not-off (p .result) (c .before .before .if1 .left)))
 
 pub is-sound-spec : {M : Type 1} → statement M
-is-sound-spec = tie.close (tie.spec parts-sound-requires returns rows-within-requires returns-2)
+is-sound-spec = tie.close (tie.spec (λ c κs. search needs) returns rows-within-requires returns-2)

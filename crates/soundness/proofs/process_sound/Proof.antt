@@ -7,33 +7,6 @@ use Rattle.sets.specs.Tests.{both}
 use Rattle.soundness.proofs.process_sound.Statement.{statement}
 use Rattle.soundness.proofs.process_sound.Tie as tie
 
-cast-result : tie.Need-cast-result
-cast-result c = search needs
-
-add-result : tie.Need-add-result
-add-result c = search needs
-
-set-within-requires : tie.Need-set-within-requires
-set-within-requires c κs = search needs
-
-set-within-requires-2 : tie.Need-set-within-requires-2
-set-within-requires-2 c κs = search needs
-
-set-within-requires-3 : tie.Need-set-within-requires-3
-set-within-requires-3 c κs = search needs
-
-set-within-requires-4 : tie.Need-set-within-requires-4
-set-within-requires-4 c κs = search needs
-
-set-within-requires-5 : tie.Need-set-within-requires-5
-set-within-requires-5 c κs = search needs
-
-slice-aggregate-sets-within : tie.Need-slice-aggregate-sets-within
-slice-aggregate-sets-within c = search needs
-
-sets-within-requires : tie.Need-sets-within-requires
-sets-within-requires c κs = search needs
-
 returns : tie.Need-returns
 unfolding soundProcess soundData below
 returns c =
@@ -46,16 +19,6 @@ returns c =
     (both (c₁ .before .set-within4 .ensures) (both (c₁ .set-within5 .ensures) (c .sets-within .ensures))))))
 
 pub process-sound-spec : {M : Type 1} → statement M
-process-sound-spec =
-    tie.close
-    (tie.spec
-    cast-result
-    add-result
-    set-within-requires
-    set-within-requires-2
-    set-within-requires-3
-    set-within-requires-4
-    set-within-requires-5
-    slice-aggregate-sets-within
-    sets-within-requires
-    returns)
+process-sound-spec = tie.close (tie.spec (λ c. search needs) (λ c. search needs) (λ c κs. search needs)
+    (λ c κs. search needs) (λ c κs. search needs) (λ c κs. search needs) (λ c κs. search needs) (λ c. search needs)
+    (λ c κs. search needs) returns)

@@ -1,10 +1,11 @@
--- `processes_sound` tests every process. The loop's invariant: its flag and the processes from k on say together whether every one is sound.
+-- `processes_sound` tests every process. The loop's invariant: its flag and the processes from k on say
+-- together whether every one is sound.
 use Prim.Native.Nat.{_≤_, _-_}
 use lib.ListN.{length}
 use borrow.Author.Needs.{needs}
 use Rattle.process.specs.Steps.{noProcess}
 use Rattle.bench.specs.Sound.{soundProcess}
-use Rattle.bench.specs.EveryLaws.{Tested, tested-none, tested-more, tested-all}
+use Rattle.bench.specs.EveryInLaws.{Tested, tested-none, tested-more, tested-all}
 use Rattle.soundness.proofs.processes_sound.Statement.{statement}
 use Rattle.soundness.proofs.processes_sound.Tie as tie
 
@@ -17,27 +18,13 @@ abbrev μ-loop : tie.MeasureT-loop
 loop-holds : tie.Need-loop-holds Inv-loop μ-loop
 loop-holds c = (search needs, tested-none (soundProcess (c .args .n) (c .args .t)) (c .args .t3))
 
-mul-p : tie.Need-mul-p Inv-loop μ-loop
-mul-p c = search needs
-
-array-copy-out-p : tie.Need-array-copy-out-p Inv-loop μ-loop
-array-copy-out-p c = search needs
-
-process-sound-requires : tie.Need-process-sound-requires Inv-loop μ-loop
-process-sound-requires c κs = search needs
-
-add-k : tie.Need-add-k Inv-loop μ-loop
-add-k c = search needs
-
-loop-less : tie.Need-loop-less Inv-loop μ-loop
-loop-less c = search needs
-
 loop-again : tie.Need-loop-again Inv-loop μ-loop
 loop-again c =
     let a = c .before .before .before .before .args in
     let l = c .before .before .before .loop in (
       search needs,
-      tested-more (soundProcess (a .n) (a .t)) noProcess (a .t3) (l .k) (l .ok) (c .process-sound .result) (search needs) (c .process-sound .ensures) (l .inv .1),
+      tested-more (soundProcess (a .n) (a .t)) noProcess (a .t3) (l .k) (l .ok) (c .process-sound .result)
+          (search needs) (c .process-sound .ensures) (l .inv .1),
     )
 
 returns : tie.Need-returns Inv-loop μ-loop
@@ -47,16 +34,5 @@ returns c =
     tested-all (soundProcess (a .n) (a .t)) (a .t3) (l .k) (l .ok) (search needs) (l .inv .1)
 
 pub processes-sound-spec : {M : Type 1} → statement M
-processes-sound-spec =
-    tie.close
-    (tie.spec
-    Inv-loop
-    μ-loop
-    loop-holds
-    mul-p
-    array-copy-out-p
-    process-sound-requires
-    add-k
-    loop-less
-    loop-again
-    returns)
+processes-sound-spec = tie.close (tie.spec Inv-loop μ-loop loop-holds (λ c. search needs) (λ c. search needs)
+    (λ c κs. search needs) (λ c. search needs) (λ c. search needs) loop-again returns)

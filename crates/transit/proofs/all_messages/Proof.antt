@@ -1,10 +1,11 @@
--- `all_messages` sums the messages of each round. The loop's invariant: three times the sum is the length of the bytes of the rounds below r.
+-- `all_messages` sums the messages of each round. The loop's invariant: three times the sum is the length of
+-- the bytes of the rounds below r.
 use mathlib.Core.Path.{_≡_, refl, ap, _∙_}
 use Prim.Native.Nat.{ℕ, _+_, _*_, _≤_, _-_}
 use native.Mathlib.Omega.{arith}
 use lib.ListN.{length}
 use borrow.Author.Needs.{needs}
-use Rattle.bench.specs.Calls.{joined}
+use Rattle.sets.specs.Lists.{joined}
 use Rattle.bench.specs.TransitLaws.{roundBytes, sum-more}
 use Rattle.transit.proofs.all_messages.Statement.{statement}
 use Rattle.transit.proofs.all_messages.Tie as tie
@@ -19,28 +20,14 @@ loop-holds : tie.Need-loop-holds Inv-loop μ-loop
 unfolding joined
 loop-holds c = (search needs, search needs, refl)
 
-add-loop : tie.Need-add-loop Inv-loop μ-loop
-add-loop c = search needs
-
-round-messages-requires : tie.Need-round-messages-requires Inv-loop μ-loop
-round-messages-requires c κs = search needs
-
-add-sum : tie.Need-add-sum Inv-loop μ-loop
-add-sum c = search needs
-
-add-r : tie.Need-add-r Inv-loop μ-loop
-add-r c = search needs
-
-loop-less : tie.Need-loop-less Inv-loop μ-loop
-loop-less c = search needs
-
 loop-again : tie.Need-loop-again Inv-loop μ-loop
 loop-again c =
     let a = c .before .before .before .before .args in
     let l = c .before .before .loop in (
       search needs,
       omega arith,
-      sum-more (roundBytes (a .words .now) (a .n)) (l .sum) (c .round-messages .result) (l .r) (l .inv .2) (c .round-messages .ensures .0),
+      sum-more (roundBytes (a .words .now) (a .n)) (l .sum) (c .round-messages .result) (l .r) (l .inv .2)
+          (c .round-messages .ensures .0),
     )
 
 returns : tie.Need-returns Inv-loop μ-loop
@@ -51,16 +38,5 @@ returns c =
     (l .inv .2 ∙ ap (λ (k : ℕ). length (joined k (roundBytes (a .words .now) (a .n)))) e, omega arith)
 
 pub all-messages-spec : {M : Type 1} → statement M
-all-messages-spec =
-    tie.close
-    (tie.spec
-    Inv-loop
-    μ-loop
-    loop-holds
-    add-loop
-    round-messages-requires
-    add-sum
-    add-r
-    loop-less
-    loop-again
-    returns)
+all-messages-spec = tie.close (tie.spec Inv-loop μ-loop loop-holds (λ c. search needs) (λ c κs. search needs)
+    (λ c. search needs) (λ c. search needs) (λ c. search needs) loop-again returns)

@@ -1,10 +1,11 @@
--- `put_all` stores the messages of each round. The loop's invariant: what is stored is the bytes of the rounds below r.
+-- `put_all` stores the messages of each round. The loop's invariant: what is stored is
+-- the bytes of the rounds below r.
 use mathlib.Core.Path.{_≡_}
 use Prim.Native.Nat.{_+_, _≤_, _-_}
+use native.Mathlib.Nat.{le-antisymm}
 use native.Mathlib.Omega.{arith}
-use lib.ListN.{length}
 use borrow.Author.Needs.{needs}
-use Rattle.bench.specs.Calls.{joined}
+use Rattle.sets.specs.Lists.{joined}
 use Rattle.bench.specs.TransitLaws.{roundBytes, Stores, stores-none, stores-length, stores-more, stores-room}
 use Rattle.transit.proofs.put_all.Statement.{statement}
 use Rattle.transit.proofs.put_all.Tie as tie
@@ -15,13 +16,6 @@ Inv-loop out₀ n t words place₀ r₀ out place r = (r ≤ t + 2) × Stores ou
 abbrev μ-loop : tie.MeasureT-loop
 μ-loop out₀ n t words place₀ r₀ out place r = t + 2 - r
 
-loop-holds : tie.Need-loop-holds Inv-loop μ-loop
-unfolding joined
-loop-holds c = (search needs, stores-none (c .before .before .args .out .now) 0)
-
-add-loop : tie.Need-add-loop Inv-loop μ-loop
-add-loop c = search needs
-
 put-round-requires : tie.Need-put-round-requires Inv-loop μ-loop
 put-round-requires c κs =
     let s = c .before .before .before .before .before in
@@ -30,14 +24,9 @@ put-round-requires c κs =
       search needs,
       omega arith,
       search needs,
-      stores-room (roundBytes (a .words .now) (a .n)) (a .out .now) 0 (a .t + 2) (l .r) (l .out) (l .place) (omega arith) (omega (arith, s .pre .3)) (l .inv .1),
+      stores-room (roundBytes (a .words .now) (a .n)) (a .out .now) 0 (a .t + 2) (l .r) (l .out) (l .place)
+          (omega arith) (omega (arith, s .pre .3)) (l .inv .1),
     )
-
-add-r : tie.Need-add-r Inv-loop μ-loop
-add-r c = search needs
-
-loop-less : tie.Need-loop-less Inv-loop μ-loop
-loop-less c = search needs
 
 loop-again : tie.Need-loop-again Inv-loop μ-loop
 loop-again c =
@@ -45,7 +34,8 @@ loop-again c =
     let l = c .before .before .before .before .before .loop in
     let p = c .before .before .put-round in (
       search needs,
-      stores-more (roundBytes (a .words .now) (a .n)) (a .out .now) 0 (l .r) (l .out) (l .place) (p .last .0) (p .result) (l .inv .1) (p .ensures),
+      stores-more (roundBytes (a .words .now) (a .n)) (a .out .now) 0 (l .r) (l .out) (l .place) (p .last .0)
+          (p .result) (l .inv .1) (p .ensures),
     )
 
 same-length : tie.Need-same-length Inv-loop μ-loop
@@ -54,24 +44,9 @@ same-length c =
     let l = c .before .loop in
     stores-length (a .out .now) 0 (joined (l .r) (roundBytes (a .words .now) (a .n))) (l .out) (l .place) (l .inv .1)
 
-returns : tie.Need-returns Inv-loop μ-loop
-returns c =
-    let a = c .before .before .before .before .args in
-    let l = c .before .loop in
-    let e : l .r ≡ a .t + 2 = search needs in
-    rw (← e) (l .inv .1)
-
 pub put-all-spec : {M : Type 1} → statement M
-put-all-spec =
-    tie.close
-    (tie.spec
-    Inv-loop
-    μ-loop
-    loop-holds
-    add-loop
-    put-round-requires
-    add-r
-    loop-less
-    loop-again
-    same-length
-    returns)
+unfolding joined
+put-all-spec = tie.close (tie.spec Inv-loop μ-loop
+    (λ c. (search needs, stores-none (c .before .before .args .out .now) 0)) (λ c. search needs) put-round-requires
+    (λ c. search needs) (λ c. search needs) loop-again same-length
+    (λ c. rw (le-antisymm (c .before .loop .inv .0) (c .loop-test .left)) at (c .before .loop .inv .1)))

@@ -1,16 +1,18 @@
--- `put_round` stores the messages of each sender. The loop's invariant: what is stored is the bytes of the senders below a.
+-- `put_round` stores the messages of each sender. The loop's invariant: what is stored is
+-- the bytes of the senders below a.
 use mathlib.Core.Path.{_≡_, subst}
 use Prim.Native.Nat.{ℕ, _≤_, _-_}
 use native.Mathlib.Omega.{arith}
-use lib.ListN.{length}
 use borrow.Author.Needs.{needs}
-use Rattle.bench.specs.Calls.{joined}
-use Rattle.bench.specs.TransitLaws.{senderBytes, roundBytes, Stores, stores-none, stores-length, stores-more, stores-room}
+use Rattle.sets.specs.Lists.{joined}
+use Rattle.bench.specs.TransitLaws.{senderBytes, roundBytes, Stores, stores-none}
+use Rattle.bench.specs.TransitLaws.{stores-length, stores-more, stores-room}
 use Rattle.transit.proofs.put_round.Statement.{statement}
 use Rattle.transit.proofs.put_round.Tie as tie
 
 abbrev Inv-loop : tie.InvT-loop
-Inv-loop out₀ at n words r place₀ a₀ out place a = (a ≤ n) × Stores out₀ at (joined a (senderBytes words n r)) out place
+Inv-loop out₀ at n words r place₀ a₀ out place a =
+    (a ≤ n) × Stores out₀ at (joined a (senderBytes words n r)) out place
 
 abbrev μ-loop : tie.MeasureT-loop
 μ-loop out₀ at n words r place₀ a₀ out place a = n - a
@@ -18,21 +20,6 @@ abbrev μ-loop : tie.MeasureT-loop
 loop-holds : tie.Need-loop-holds Inv-loop μ-loop
 unfolding joined
 loop-holds c = (search needs, stores-none (c .before .before .args .out .now) (c .before .before .args .at))
-
-cast-m : tie.Need-cast-m Inv-loop μ-loop
-cast-m c = search needs
-
-mul-m : tie.Need-mul-m Inv-loop μ-loop
-mul-m c = search needs
-
-add-m : tie.Need-add-m Inv-loop μ-loop
-add-m c = search needs
-
-mul-m-2 : tie.Need-mul-m-2 Inv-loop μ-loop
-mul-m-2 c = search needs
-
-shared-slice-read-m : tie.Need-shared-slice-read-m Inv-loop μ-loop
-shared-slice-read-m c = search needs
 
 put-set-requires : tie.Need-put-set-requires Inv-loop μ-loop
 unfolding senderBytes roundBytes
@@ -46,12 +33,6 @@ put-set-requires c κs =
           (c .before .before .loop-test .taken) (s .pre .3) (l .inv .1),
     )
 
-add-a : tie.Need-add-a Inv-loop μ-loop
-add-a c = search needs
-
-loop-less : tie.Need-loop-less Inv-loop μ-loop
-loop-less c = search needs
-
 loop-again : tie.Need-loop-again Inv-loop μ-loop
 unfolding senderBytes
 loop-again c =
@@ -59,14 +40,16 @@ loop-again c =
     let l = c .before .before .before .before .before .before .loop in
     let p = c .before .before .put-set in (
       search needs,
-      stores-more (senderBytes (a .words .now) (a .n) (a .r)) (a .out .now) (a .at) (l .a) (l .out) (l .place) (p .last .0) (p .result) (l .inv .1) (p .ensures),
+      stores-more (senderBytes (a .words .now) (a .n) (a .r)) (a .out .now) (a .at) (l .a) (l .out) (l .place)
+          (p .last .0) (p .result) (l .inv .1) (p .ensures),
     )
 
 same-length : tie.Need-same-length Inv-loop μ-loop
 same-length c =
     let a = c .before .before .before .before .args in
     let l = c .before .loop in
-    stores-length (a .out .now) (a .at) (joined (l .a) (senderBytes (a .words .now) (a .n) (a .r))) (l .out) (l .place) (l .inv .1)
+    stores-length (a .out .now) (a .at) (joined (l .a) (senderBytes (a .words .now) (a .n) (a .r))) (l .out)
+    (l .place) (l .inv .1)
 
 returns : tie.Need-returns Inv-loop μ-loop
 unfolding roundBytes
@@ -74,23 +57,11 @@ returns c =
     let a = c .before .before .before .before .args in
     let l = c .before .loop in
     let e : l .a ≡ a .n = search needs in
-    subst (λ (k : ℕ). Stores (a .out .now) (a .at) (joined k (senderBytes (a .words .now) (a .n) (a .r))) (l .out) (l .place)) e (l .inv .1)
+    subst (λ (k : ℕ).
+    Stores (a .out .now) (a .at) (joined k (senderBytes (a .words .now) (a .n) (a .r))) (l .out) (l .place)) e
+    (l .inv .1)
 
 pub put-round-spec : {M : Type 1} → statement M
-put-round-spec =
-    tie.close
-    (tie.spec
-    Inv-loop
-    μ-loop
-    loop-holds
-    cast-m
-    mul-m
-    add-m
-    mul-m-2
-    shared-slice-read-m
-    put-set-requires
-    add-a
-    loop-less
-    loop-again
-    same-length
-    returns)
+put-round-spec = tie.close (tie.spec Inv-loop μ-loop loop-holds (λ c. search needs) (λ c. search needs)
+    (λ c. search needs) (λ c. search needs) (λ c. search needs) put-set-requires (λ c. search needs)
+    (λ c. search needs) loop-again same-length returns)

@@ -1,10 +1,11 @@
--- `put_set` stores the message for each receiver. The loop's invariant: what is stored is the bytes for the receivers below b.
+-- `put_set` stores the message for each receiver. The loop's invariant: what is stored is the
+-- bytes for the receivers below b.
 use mathlib.Core.Path.{_≡_}
 use Prim.Native.Nat.{_≤_, _-_}
+use native.Mathlib.Nat.{le-antisymm}
 use native.Mathlib.Omega.{arith}
-use lib.ListN.{length}
 use borrow.Author.Needs.{needs}
-use Rattle.bench.specs.Calls.{joined}
+use Rattle.sets.specs.Lists.{joined}
 use Rattle.bench.specs.TransitLaws.{setBytes, Stores, stores-none, stores-length, stores-more, stores-room}
 use Rattle.transit.proofs.put_set.Statement.{statement}
 use Rattle.transit.proofs.put_set.Tie as tie
@@ -15,25 +16,16 @@ Inv-loop out₀ at n m r a place₀ b₀ out place b = (b ≤ n) × Stores out�
 abbrev μ-loop : tie.MeasureT-loop
 μ-loop out₀ at n m r a place₀ b₀ out place b = n - b
 
-loop-holds : tie.Need-loop-holds Inv-loop μ-loop
-unfolding joined
-loop-holds c = (search needs, stores-none (c .before .args .out .now) (c .before .args .at))
-
 put-message-requires : tie.Need-put-message-requires Inv-loop μ-loop
 put-message-requires c κs =
     let a = c .before .before .before .before .args in
     let l = c .before .before .loop in (
       search needs,
       omega arith,
-      stores-room (setBytes (a .m) (a .r) (a .a)) (a .out .now) (a .at) (a .n) (l .b) (l .out) (l .place) (c .before .loop-test .taken)
+      stores-room (setBytes (a .m) (a .r) (a .a)) (a .out .now) (a .at) (a .n) (l .b) (l .out) (l .place)
+          (c .before .loop-test .taken)
           (c .before .before .before .before .pre .2) (l .inv .1),
     )
-
-add-b : tie.Need-add-b Inv-loop μ-loop
-add-b c = search needs
-
-loop-less : tie.Need-loop-less Inv-loop μ-loop
-loop-less c = search needs
 
 loop-again : tie.Need-loop-again Inv-loop μ-loop
 loop-again c =
@@ -41,7 +33,8 @@ loop-again c =
     let l = c .before .before .before .before .before .loop in
     let p = c .before .before .put-message in (
       search needs,
-      stores-more (setBytes (a .m) (a .r) (a .a)) (a .out .now) (a .at) (l .b) (l .out) (l .place) (p .last .0) (p .result) (l .inv .1) (p .ensures),
+      stores-more (setBytes (a .m) (a .r) (a .a)) (a .out .now) (a .at) (l .b) (l .out) (l .place) (p .last .0)
+          (p .result) (l .inv .1) (p .ensures),
     )
 
 same-length : tie.Need-same-length Inv-loop μ-loop
@@ -50,22 +43,9 @@ same-length c =
     let l = c .before .loop in
     stores-length (a .out .now) (a .at) (joined (l .b) (setBytes (a .m) (a .r) (a .a))) (l .out) (l .place) (l .inv .1)
 
-returns : tie.Need-returns Inv-loop μ-loop
-returns c =
-    let l = c .before .loop in
-    let e : l .b ≡ c .before .before .before .args .n = search needs in
-    rw (← e) (l .inv .1)
-
 pub put-set-spec : {M : Type 1} → statement M
-put-set-spec =
-    tie.close
-    (tie.spec
-    Inv-loop
-    μ-loop
-    loop-holds
-    put-message-requires
-    add-b
-    loop-less
-    loop-again
-    same-length
-    returns)
+unfolding joined
+put-set-spec = tie.close (tie.spec Inv-loop μ-loop
+    (λ c. (search needs, stores-none (c .before .args .out .now) (c .before .args .at))) put-message-requires
+    (λ c. search needs) (λ c. search needs) loop-again same-length
+    (λ c. rw (le-antisymm (c .before .loop .inv .0) (c .loop-test .left)) at (c .before .loop .inv .1)))

@@ -1,11 +1,12 @@
--- `round_messages` sums the messages of each sender. The loop's invariant: three times the sum is the length of the bytes of the senders below a.
+-- `round_messages` sums the messages of each sender. The loop's invariant: three times the sum is the length of
+-- the bytes of the senders below a.
 use mathlib.Core.Path.{_≡_, refl, ap, _∙_}
 use Prim.Native.Nat.{ℕ, _+_, _*_, _^_, _≤_, _<_, _-_}
 use native.Mathlib.Omega.{arith}
 use lib.ListN.{length, getD}
 use borrow.Author.Needs.{needs}
 use Rattle.sets.specs.Laws.{size-le}
-use Rattle.bench.specs.Calls.{joined}
+use Rattle.sets.specs.Lists.{joined}
 use Rattle.bench.specs.TransitLaws.{senderBytes, roundBytes, sum-more, size-length}
 use Rattle.transit.proofs.round_messages.Statement.{statement}
 use Rattle.transit.proofs.round_messages.Tie as tie
@@ -20,24 +21,6 @@ loop-holds : tie.Need-loop-holds Inv-loop μ-loop
 unfolding joined
 loop-holds c = (search needs, search needs, refl)
 
-cast-m : tie.Need-cast-m Inv-loop μ-loop
-cast-m c = search needs
-
-mul-m : tie.Need-mul-m Inv-loop μ-loop
-mul-m c = search needs
-
-add-m : tie.Need-add-m Inv-loop μ-loop
-add-m c = search needs
-
-mul-m-2 : tie.Need-mul-m-2 Inv-loop μ-loop
-mul-m-2 c = search needs
-
-shared-slice-read-m : tie.Need-shared-slice-read-m Inv-loop μ-loop
-shared-slice-read-m c = search needs
-
-size-requires : tie.Need-size-requires Inv-loop μ-loop
-size-requires c κs = search needs
-
 -- the set of this turn: it is within n, so its size is at most n
 low : (c : tie.After-size Inv-loop μ-loop) → let a = c .before .before .before .before .before .args in
     getD (a .words .now) (c .before .before .before .loop .a * 17 + a .r) 0 < 2 ^ a .n
@@ -48,18 +31,6 @@ low c =
 few : (c : tie.After-size Inv-loop μ-loop) → c .size .result ≤ 16
 few c = omega (arith, c .size .ensures, size-le (c .before .before .before .before .before .args .n) _ (low c))
 
-cast-sum : tie.Need-cast-sum Inv-loop μ-loop
-cast-sum c = omega (arith, few c)
-
-add-sum : tie.Need-add-sum Inv-loop μ-loop
-add-sum c = omega (arith, few c)
-
-add-a : tie.Need-add-a Inv-loop μ-loop
-add-a c = search needs
-
-loop-less : tie.Need-loop-less Inv-loop μ-loop
-loop-less c = search needs
-
 loop-again : tie.Need-loop-again Inv-loop μ-loop
 unfolding senderBytes
 loop-again c =
@@ -68,7 +39,8 @@ loop-again c =
       search needs,
       omega (arith, few c),
       sum-more (senderBytes (a .words .now) (a .n) (a .r)) (l .sum) (c .size .result) (l .a) (l .inv .2)
-          (ap (λ (x : ℕ). x * 3) (c .size .ensures) ∙ size-length (getD (a .words .now) (l .a * 17 + a .r) 0) (a .r) (l .a) (a .n) (low c)),
+          (ap (λ (x : ℕ). x * 3) (c .size .ensures)
+          ∙ size-length (getD (a .words .now) (l .a * 17 + a .r) 0) (a .r) (l .a) (a .n) (low c)),
     )
 
 returns : tie.Need-returns Inv-loop μ-loop
@@ -80,21 +52,6 @@ returns c =
     (l .inv .2 ∙ ap (λ (k : ℕ). length (joined k (senderBytes (a .words .now) (a .n) (a .r)))) e, omega arith)
 
 pub round-messages-spec : {M : Type 1} → statement M
-round-messages-spec =
-    tie.close
-    (tie.spec
-    Inv-loop
-    μ-loop
-    loop-holds
-    cast-m
-    mul-m
-    add-m
-    mul-m-2
-    shared-slice-read-m
-    size-requires
-    cast-sum
-    add-sum
-    add-a
-    loop-less
-    loop-again
-    returns)
+round-messages-spec = tie.close (tie.spec Inv-loop μ-loop loop-holds (λ c. search needs) (λ c. search needs)
+    (λ c. search needs) (λ c. search needs) (λ c. search needs) (λ c κs. search needs) (λ c. omega (arith, few c))
+    (λ c. omega (arith, few c)) (λ c. search needs) (λ c. search needs) loop-again returns)

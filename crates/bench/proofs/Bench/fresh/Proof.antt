@@ -1,5 +1,5 @@
 -- `Bench::fresh` fills the bench's arrays with an idle process, with absent global data and with the empty set.
-use mathlib.Core.Path.{_≡_, ap, _∙_}
+use mathlib.Core.Path.{ap, _∙_}
 use Prim.Native.Nat.{ℕ}
 use lib.ListN.{replicate}
 use borrow.Author.Needs.{needs}
@@ -13,22 +13,17 @@ use Rattle.bench.specs.State.{openedOf}
 use Rattle.bench.proofs.Bench.fresh.Statement.{statement}
 use Rattle.bench.proofs.Bench.fresh.Tie as tie
 
-idle-requires : tie.Need-idle-requires
-idle-requires c κs = search needs
-
-nothing-requires : tie.Need-nothing-requires
-nothing-requires c κs = search needs
-
-empty-requires : tie.Need-empty-requires
-empty-requires c κs = search needs
-
-empty-requires-2 : tie.Need-empty-requires-2
-empty-requires-2 c κs = search needs
-
 -- a bench of what its parts are filled with
 filled : ℕ → ℕ → ℕ → Process → GlobalData → ℕ → Bench
 filled n t m p g w =
-    record { n = n; t = t; crashed = m; processes = replicate 16 p; sent = replicate 256 g; in_transit = replicate 272 w }
+    record {
+      n = n;
+      t = t;
+      crashed = m;
+      processes = replicate 16 p;
+      sent = replicate 256 g;
+      in_transit = replicate 272 w;
+    }
 
 returns : tie.Need-returns
 unfolding openedOf filled
@@ -43,4 +38,5 @@ returns c =
     ∙ ap (filled (a .n) (a .t) emptySet idleOf nothingOf) (c .empty2 .ensures)
 
 pub fresh-spec : {M : Type 1} → statement M
-fresh-spec = tie.close (tie.spec idle-requires nothing-requires empty-requires empty-requires-2 returns)
+fresh-spec = tie.close (tie.spec (λ c κs. search needs) (λ c κs. search needs) (λ c κs. search needs)
+    (λ c κs. search needs) returns)

@@ -1,22 +1,12 @@
 -- `Bench::open` opens where the sizes allow it, and else refuses with the all-zero bench.
-use mathlib.Core.Path.{_≡_, sym, ap, _∙_}
+use mathlib.Core.Path.{sym, ap, _∙_}
 use borrow.Author.Needs.{needs}
-use Rattle.sets.specs.Truth.{choose-on, choose-off}
+use Rattle.sets.specs.TruthLaws.{choose-on, choose-off}
 use Rattle.bench.specs.declared.Answer.the-variants.{Accepted, Refused}
 use Rattle.bench.specs.declared.Bench.{Bench}
-use Rattle.bench.specs.declared.Opened.{Opened}
 use Rattle.bench.specs.Calls.{openOf, refused}
 use Rattle.bench.proofs.Bench.open.Statement.{statement}
 use Rattle.bench.proofs.Bench.open.Tie as tie
-
-sizes-open-requires : tie.Need-sizes-open-requires
-sizes-open-requires c κs = search needs
-
-fresh-requires : tie.Need-fresh-requires
-fresh-requires c κs = search needs
-
-fresh-requires-2 : tie.Need-fresh-requires-2
-fresh-requires-2 c κs = search needs
 
 returns : tie.Need-returns
 unfolding openOf
@@ -31,5 +21,4 @@ returns-2 c =
     ∙ sym (choose-off _ _ _ (sym (c .before .before .sizes-open .ensures) ∙ c .before .if1 .left))
 
 pub open-spec : {M : Type 1} → statement M
-open-spec =
-    tie.close (tie.spec sizes-open-requires fresh-requires fresh-requires-2 returns returns-2)
+open-spec = tie.close (tie.spec (λ c κs. search needs) (λ c κs. search needs) (λ c κs. search needs) returns returns-2)

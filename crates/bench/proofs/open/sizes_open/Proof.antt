@@ -1,14 +1,15 @@
--- `sizes_open` makes the three tests of the definition.
+-- `sizes_open` makes the tests of the definition.
 use mathlib.Core.Path.{refl}
 use Rattle.sets.specs.Truth.{below}
-use Rattle.bench.specs.Sound.{opens}
 use Rattle.sets.specs.Tests.{both}
+use Rattle.bench.specs.Sound.{opens}
+use borrow.Author.Needs.{needs}
 use Rattle.bench.proofs.open.sizes_open.Statement.{statement}
 use Rattle.bench.proofs.open.sizes_open.Tie as tie
 
 returns : tie.Need-returns
 unfolding opens below
-returns c = both refl (both refl refl)
+returns c = both (c .one-to .ensures) refl
 
 pub sizes-open-spec : {M : Type 1} → statement M
-sizes-open-spec = tie.close (tie.spec returns)
+sizes-open-spec = tie.close (tie.spec (λ c κs. search needs) returns)

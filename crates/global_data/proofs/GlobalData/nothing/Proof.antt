@@ -4,12 +4,9 @@ use borrow.Author.Needs.{needs}
 use Rattle.global_data.proofs.GlobalData.nothing.Statement.{statement}
 use Rattle.global_data.proofs.GlobalData.nothing.Tie as tie
 
-empty-requires : tie.Need-empty-requires
-empty-requires c κs = search needs
-
 returns : tie.Need-returns
 unfolding nothingOf
 returns c = rw (c .empty .ensures)
 
 pub nothing-spec : {M : Type 1} → statement M
-nothing-spec = tie.close (tie.spec empty-requires returns)
+nothing-spec = tie.close (tie.spec (λ c κs. search needs) returns)

@@ -2,7 +2,7 @@
 use mathlib.Core.Path.{_≡_, refl}
 use Prim.Native.Nat.{_≤_, _-_}
 use native.Mathlib.Numerals.{add-one}
-use Rattle.sets.specs.Every.{every}
+use Rattle.sets.specs.Lists.{every}
 use Rattle.sets.specs.Truth.{_&&_}
 use Rattle.global_data.specs.GlobalData.{entryOf, sameTo}
 use borrow.Author.Needs.{needs}
@@ -19,38 +19,17 @@ loop-holds : tie.Need-loop-holds Inv-loop μ-loop
 unfolding sameTo every
 loop-holds c = (search needs, refl)
 
-member-requires : tie.Need-member-requires Inv-loop μ-loop
-member-requires c κs = search needs
-
-mul-same-entry : tie.Need-mul-same-entry Inv-loop μ-loop
-mul-same-entry c = search needs
-
-element-copy-out-same-entry : tie.Need-element-copy-out-same-entry Inv-loop μ-loop
-element-copy-out-same-entry c = search needs
-
-member-requires-2 : tie.Need-member-requires-2 Inv-loop μ-loop
-member-requires-2 c κs = search needs
-
-mul-same-entry-2 : tie.Need-mul-same-entry-2 Inv-loop μ-loop
-mul-same-entry-2 c = search needs
-
-element-copy-out-same-entry-2 : tie.Need-element-copy-out-same-entry-2 Inv-loop μ-loop
-element-copy-out-same-entry-2 c = search needs
-
-same-entry-requires : tie.Need-same-entry-requires Inv-loop μ-loop
-same-entry-requires c κs = search needs
-
-add-k : tie.Need-add-k Inv-loop μ-loop
-add-k c = search needs
-
-loop-less : tie.Need-loop-less Inv-loop μ-loop
-loop-less c = search needs
-
 loop-again : tie.Need-loop-again Inv-loop μ-loop
 unfolding sameTo every entryOf _&&_
 loop-again c = (
   search needs,
-  rw (add-one, c .same-entry .ensures, c .before .before .before .before .member .ensures, c .before .before .member2 .ensures, c .before .before .before .before .before .before .loop .inv .1),
+  rw (
+    add-one,
+    c .same-entry .ensures,
+    c .before .before .before .before .member .ensures,
+    c .before .before .member2 .ensures,
+    c .before .before .before .before .before .before .loop .inv .1,
+  ),
 )
 
 returns : tie.Need-returns Inv-loop μ-loop
@@ -59,20 +38,6 @@ returns c =
     rw (← e, c .before .loop .inv .1)
 
 pub same-spec : {M : Type 1} → statement M
-same-spec =
-    tie.close
-    (tie.spec
-    Inv-loop
-    μ-loop
-    loop-holds
-    member-requires
-    mul-same-entry
-    element-copy-out-same-entry
-    member-requires-2
-    mul-same-entry-2
-    element-copy-out-same-entry-2
-    same-entry-requires
-    add-k
-    loop-less
-    loop-again
-    returns)
+same-spec = tie.close (tie.spec Inv-loop μ-loop loop-holds (λ c κs. search needs) (λ c. search needs)
+    (λ c. search needs) (λ c κs. search needs) (λ c. search needs) (λ c. search needs) (λ c κs. search needs)
+    (λ c. search needs) (λ c. search needs) loop-again returns)

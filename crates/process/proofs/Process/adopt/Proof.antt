@@ -6,29 +6,21 @@ use Rattle.process.specs.Steps.{adoptOf}
 use Rattle.process.proofs.Process.adopt.Statement.{statement}
 use Rattle.process.proofs.Process.adopt.Tie as tie
 
-takes-part-requires : tie.Need-takes-part-requires
-takes-part-requires c κs = search needs
-
-owed-requires : tie.Need-owed-requires
-owed-requires c κs = search needs
-
-remove-requires : tie.Need-remove-requires
-remove-requires c κs = search needs
-
-decide-requires : tie.Need-decide-requires
-decide-requires c κs = search needs
-
 returns : tie.Need-returns
 unfolding adoptOf choose
 returns c =
     let b = c .before .before .before in
-    rw (sym (b .before .takes-part .ensures) ∙ b .if1 .taken, c .decide .ensures, c .before .remove .ensures, c .before .before .owed .ensures)
+    rw (
+      sym (b .before .takes-part .ensures) ∙ b .if1 .taken,
+      c .decide .ensures,
+      c .before .remove .ensures,
+      c .before .before .owed .ensures,
+    )
 
 returns-2 : tie.Need-returns-2
 unfolding adoptOf choose
 returns-2 c = rw (sym (c .before .takes-part .ensures) ∙ c .if1 .left)
 
 pub adopt-spec : {M : Type 1} → statement M
-adopt-spec =
-    tie.close
-    (tie.spec takes-part-requires owed-requires remove-requires decide-requires returns returns-2)
+adopt-spec = tie.close (tie.spec (λ c κs. search needs) (λ c κs. search needs) (λ c κs. search needs)
+    (λ c κs. search needs) returns returns-2)

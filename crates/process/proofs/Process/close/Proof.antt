@@ -1,26 +1,11 @@
--- `Process::close` is the step: the filled estimate of `filled` is the one that `decides`, `decide` and `advance` are given.
+-- `Process::close` is the step: the filled estimate of `filled` is the one that `decides`,
+-- `decide` and `advance` are given.
 use mathlib.Core.Path.{sym, _∙_}
 use borrow.Author.Needs.{needs}
 use Rattle.sets.specs.Truth.{choose}
 use Rattle.process.specs.Steps.{closeOf}
-use Rattle.process.specs.Laws.{advance-filled}
 use Rattle.process.proofs.Process.close.Statement.{statement}
 use Rattle.process.proofs.Process.close.Tie as tie
-
-filled-requires : tie.Need-filled-requires
-filled-requires c κs = search needs
-
-decides-requires : tie.Need-decides-requires
-decides-requires c κs = search needs
-
-owed-requires : tie.Need-owed-requires
-owed-requires c κs = search needs
-
-decide-requires : tie.Need-decide-requires
-decide-requires c κs = search needs
-
-advance-requires : tie.Need-advance-requires
-advance-requires c κs = search needs
 
 returns : tie.Need-returns
 unfolding closeOf choose
@@ -40,16 +25,7 @@ returns-2 c =
       c .advance .ensures,
       c .before .before .before .filled .ensures,
     )
-    (sym (advance-filled _ _ _))
 
 pub close-spec : {M : Type 1} → statement M
-close-spec =
-    tie.close
-    (tie.spec
-    filled-requires
-    decides-requires
-    owed-requires
-    decide-requires
-    advance-requires
-    returns
-    returns-2)
+close-spec = tie.close (tie.spec (λ c κs. search needs) (λ c κs. search needs) (λ c κs. search needs)
+    (λ c κs. search needs) (λ c κs. search needs) returns returns-2)

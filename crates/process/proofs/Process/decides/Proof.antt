@@ -1,19 +1,10 @@
 -- `Process::decides` is the definition: the last round decides, else the test does.
 use mathlib.Core.Path.{sym, _∙_}
 use borrow.Author.Needs.{needs}
-use Rattle.sets.specs.Truth.{same-mk, same-off, or-mk-l, or-off-l}
+use Rattle.sets.specs.TruthLaws.{same-mk, same-off, or-mk-l, or-off-l}
 use Rattle.process.specs.Steps.{decidesOf}
 use Rattle.process.proofs.Process.decides.Statement.{statement}
 use Rattle.process.proofs.Process.decides.Tie as tie
-
-cast-if1 : tie.Need-cast-if1
-cast-if1 c = search needs
-
-add-if1 : tie.Need-add-if1
-add-if1 c = search needs
-
-agreed-requires : tie.Need-agreed-requires
-agreed-requires c κs = search needs
 
 returns : tie.Need-returns
 unfolding decidesOf
@@ -24,4 +15,4 @@ unfolding decidesOf
 returns-2 c = c .agreed .ensures ∙ sym (or-off-l _ _ (same-off _ _ (c .before .if1 .left)))
 
 pub decides-spec : {M : Type 1} → statement M
-decides-spec = tie.close (tie.spec cast-if1 add-if1 agreed-requires returns returns-2)
+decides-spec = tie.close (tie.spec (λ c. search needs) (λ c. search needs) (λ c κs. search needs) returns returns-2)

@@ -5,18 +5,9 @@ use Rattle.process.specs.Steps.{dueOf}
 use Rattle.process.proofs.Process.due.Statement.{statement}
 use Rattle.process.proofs.Process.due.Tie as tie
 
-arrived-requires : tie.Need-arrived-requires
-arrived-requires c κs = search needs
-
-union-requires : tie.Need-union-requires
-union-requires c κs = search needs
-
-difference-requires : tie.Need-difference-requires
-difference-requires c κs = search needs
-
 returns : tie.Need-returns
 unfolding dueOf same
 returns c = cc
 
 pub due-spec : {M : Type 1} → statement M
-due-spec = tie.close (tie.spec arrived-requires union-requires difference-requires returns)
+due-spec = tie.close (tie.spec (λ c κs. search needs) (λ c κs. search needs) (λ c κs. search needs) returns)

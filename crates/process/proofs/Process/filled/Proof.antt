@@ -4,15 +4,9 @@ use Rattle.process.specs.Steps.{filledOf}
 use Rattle.process.proofs.Process.filled.Statement.{statement}
 use Rattle.process.proofs.Process.filled.Tie as tie
 
-peers-requires : tie.Need-peers-requires
-peers-requires c κs = search needs
-
-fill-from-requires : tie.Need-fill-from-requires
-fill-from-requires c κs = search needs
-
 returns : tie.Need-returns
 unfolding filledOf
 returns c = rw (c .fill-from .ensures, c .before .peers .ensures)
 
 pub filled-spec : {M : Type 1} → statement M
-filled-spec = tie.close (tie.spec peers-requires fill-from-requires returns)
+filled-spec = tie.close (tie.spec (λ c κs. search needs) (λ c κs. search needs) returns)

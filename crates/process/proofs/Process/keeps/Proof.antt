@@ -5,18 +5,9 @@ use Rattle.process.specs.Steps.{keeps}
 use Rattle.process.proofs.Process.keeps.Statement.{statement}
 use Rattle.process.proofs.Process.keeps.Tie as tie
 
-cast-at : tie.Need-cast-at
-cast-at c = search needs
-
-has-decided-requires : tie.Need-has-decided-requires
-has-decided-requires c κs = search needs
-
-member-requires : tie.Need-member-requires
-member-requires c κs = search needs
-
 returns : tie.Need-returns
 unfolding keeps _&&_ _||_ below same
 returns c = rw (c .before .has-decided .ensures, c .member .ensures)
 
 pub keeps-spec : {M : Type 1} → statement M
-keeps-spec = tie.close (tie.spec cast-at has-decided-requires member-requires returns)
+keeps-spec = tie.close (tie.spec (λ c. search needs) (λ c κs. search needs) (λ c κs. search needs) returns)

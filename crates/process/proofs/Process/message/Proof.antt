@@ -6,12 +6,6 @@ use Rattle.process.specs.Steps.{messageOf}
 use Rattle.process.proofs.Process.message.Statement.{statement}
 use Rattle.process.proofs.Process.message.Tie as tie
 
-has-decided-requires : tie.Need-has-decided-requires
-has-decided-requires c κs = search needs
-
-cast-result : tie.Need-cast-result
-cast-result c = search needs
-
 returns : tie.Need-returns
 unfolding messageOf choose
 returns c = rw (sym (c .before .has-decided .ensures) ∙ c .if1 .taken)
@@ -21,4 +15,4 @@ unfolding messageOf choose
 returns-2 c = rw (sym (c .before .before .has-decided .ensures) ∙ c .before .if1 .left)
 
 pub message-spec : {M : Type 1} → statement M
-message-spec = tie.close (tie.spec has-decided-requires cast-result returns returns-2)
+message-spec = tie.close (tie.spec (λ c κs. search needs) (λ c. search needs) returns returns-2)

@@ -4,15 +4,9 @@ use Rattle.process.specs.Steps.{peersOf}
 use Rattle.process.proofs.Process.peers.Statement.{statement}
 use Rattle.process.proofs.Process.peers.Tie as tie
 
-next-requires : tie.Need-next-requires
-next-requires c κs = search needs
-
-remove-requires : tie.Need-remove-requires
-remove-requires c κs = search needs
-
 returns : tie.Need-returns
 unfolding peersOf
 returns c = cc
 
 pub peers-spec : {M : Type 1} → statement M
-peers-spec = tie.close (tie.spec next-requires remove-requires returns)
+peers-spec = tie.close (tie.spec (λ c κs. search needs) (λ c κs. search needs) returns)

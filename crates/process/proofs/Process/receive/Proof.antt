@@ -1,5 +1,6 @@
--- `Process::receive` is the step: every set is written anew, and the one that changes is past the last where `keeps` does not hold.
-use mathlib.Core.Path.{_≡_, _∙_}
+-- `Process::receive` is the step: every set is written anew, and the one that changes is past the
+-- last where `keeps` does not hold.
+use mathlib.Core.Path.{_≡_}
 use mathlib.Core.Logic.{⊎-elim}
 use Prim.Native.Nat.{_-_}
 use borrow.Author.Needs.{needs}
@@ -9,18 +10,6 @@ use Rattle.process.specs.Laws.{receive-words}
 use Rattle.process.proofs.Process.receive.Statement.{statement}
 use Rattle.process.proofs.Process.receive.Tie as tie
 
-keeps-requires : tie.Need-keeps-requires
-keeps-requires c κs = search needs
-
-sub-at : tie.Need-sub-at
-sub-at c = search needs
-
-cast-at : tie.Need-cast-at
-cast-at c = search needs
-
-words-with-requires : tie.Need-words-with-requires
-words-with-requires c κs = search needs
-
 returns : tie.Need-returns
 unfolding choose
 returns c =
@@ -29,7 +18,9 @@ returns c =
     let at : c .before .before .if1 .at ≡ choose (keeps (a .self) (a .y) (a .r)) (a .r - 1) 16 =
     ⊎-elim (λ w. rw (← v, w .0 .taken) (w .1)) (λ w. rw (← v, w .0 .left) (w .1)) (c .before .before .if1 .came) in
     rw (c .words-with .ensures)
-    (receive-words (a .y) (a .r) (c .before .before .if1 .at) (a .self) (search needs) (search needs) (search needs) at)
+    (receive-words (a .y) (a .r) (c .before .before .if1 .at) (a .self) (search needs) (search needs)
+    (search needs) at)
 
 pub receive-spec : {M : Type 1} → statement M
-receive-spec = tie.close (tie.spec keeps-requires sub-at cast-at words-with-requires returns)
+receive-spec = tie.close (tie.spec (λ c κs. search needs) (λ c. search needs) (λ c. search needs)
+    (λ c κs. search needs) returns)

@@ -4,12 +4,9 @@ use Rattle.process.specs.Steps.{sendOf}
 use Rattle.process.proofs.Process.send.Statement.{statement}
 use Rattle.process.proofs.Process.send.Tie as tie
 
-remove-requires : tie.Need-remove-requires
-remove-requires c κs = search needs
-
 returns : tie.Need-returns
 unfolding sendOf
 returns c = cc
 
 pub send-spec : {M : Type 1} → statement M
-send-spec = tie.close (tie.spec remove-requires returns)
+send-spec = tie.close (tie.spec (λ c κs. search needs) returns)

@@ -1,20 +1,9 @@
--- `Process::start` is the step: the sets and the estimate that it writes are those of the definition, and `open_round` opens round 1.
+-- `Process::start` is the step: the sets and the estimate that it writes are those of the definition,
+-- and `open_round` opens round 1.
 use borrow.Author.Needs.{needs}
 use Rattle.process.specs.Steps.{startOf}
 use Rattle.process.proofs.Process.start.Statement.{statement}
 use Rattle.process.proofs.Process.start.Tie as tie
-
-all-requires : tie.Need-all-requires
-all-requires c κs = search needs
-
-difference-requires : tie.Need-difference-requires
-difference-requires c κs = search needs
-
-one-requires : tie.Need-one-requires
-one-requires c κs = search needs
-
-open-round-requires : tie.Need-open-round-requires
-open-round-requires c κs = search needs
 
 returns : tie.Need-returns
 unfolding startOf
@@ -23,5 +12,5 @@ returns c =
     rw (c .open-round .ensures, c .before .one .ensures, b .difference .ensures, b .before .all .ensures)
 
 pub start-spec : {M : Type 1} → statement M
-start-spec =
-    tie.close (tie.spec all-requires difference-requires one-requires open-round-requires returns)
+start-spec = tie.close (tie.spec (λ c κs. search needs) (λ c κs. search needs) (λ c κs. search needs)
+    (λ c κs. search needs) returns)

@@ -4,12 +4,9 @@ use Rattle.process.specs.Steps.{suspectOf}
 use Rattle.process.proofs.Process.suspect.Statement.{statement}
 use Rattle.process.proofs.Process.suspect.Tie as tie
 
-insert-requires : tie.Need-insert-requires
-insert-requires c κs = search needs
-
 returns : tie.Need-returns
 unfolding suspectOf
 returns c = cc
 
 pub suspect-spec : {M : Type 1} → statement M
-suspect-spec = tie.close (tie.spec insert-requires returns)
+suspect-spec = tie.close (tie.spec (λ c κs. search needs) returns)

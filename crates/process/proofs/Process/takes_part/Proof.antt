@@ -5,12 +5,9 @@ use Rattle.process.specs.Steps.{takesPart}
 use Rattle.process.proofs.Process.takes_part.Statement.{statement}
 use Rattle.process.proofs.Process.takes_part.Tie as tie
 
-has-decided-requires : tie.Need-has-decided-requires
-has-decided-requires c κs = search needs
-
 returns : tie.Need-returns
 unfolding takesPart _&&_ below
 returns c = rw (c .has-decided .ensures)
 
 pub takes-part-spec : {M : Type 1} → statement M
-takes-part-spec = tie.close (tie.spec has-decided-requires returns)
+takes-part-spec = tie.close (tie.spec (λ c κs. search needs) returns)

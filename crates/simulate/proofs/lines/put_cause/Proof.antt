@@ -6,18 +6,11 @@ use Rattle.simulate.specs.LinesLaws.{refusedIn, causeText}
 use Rattle.simulate.proofs.lines.put_cause.Statement.{statement}
 use Rattle.simulate.proofs.lines.put_cause.Tie as tie
 
-enum-told : tie.Need-enum-told
-enum-told c = search needs
-
-enum-told-2 : tie.Need-enum-told-2
-enum-told-2 c = search needs
-
-enum-known-cause : tie.Need-enum-known-cause
-enum-known-cause c = search needs
-
 put-line-requires : tie.Need-put-line-requires
 unfolding refusedIn
-put-line-requires c κs = let h = rw (c .before .before .cause .given .1) at (c .before .before .before .before .before .pre) in omega arith
+put-line-requires c κs =
+    let h = rw (c .before .before .cause .given .1) at (c .before .before .before .before .before .pre) in
+    omega arith
 
 returns : tie.Need-returns
 unfolding refusedIn causeText
@@ -27,22 +20,10 @@ returns-2 : tie.Need-returns-2
 unfolding refusedIn causeText
 returns-2 c = rw (c .enum-told2 .given .1) (puts-none _ _)
 
-same-length : tie.Need-same-length
-same-length c = search needs
-
 returns-3 : tie.Need-returns-3
 unfolding refusedIn causeText
 returns-3 c = rw (c .before .before .before .before .before .cause .given .1) (c .before .before .put-line .ensures)
 
 pub put-cause-spec : {M : Type 1} → statement M
-put-cause-spec =
-    tie.close
-    (tie.spec
-    enum-told
-    enum-told-2
-    enum-known-cause
-    put-line-requires
-    returns
-    returns-2
-    same-length
-    returns-3)
+put-cause-spec = tie.close (tie.spec (λ c. search needs) (λ c. search needs) (λ c. search needs) put-line-requires
+    returns returns-2 (λ c. search needs) returns-3)

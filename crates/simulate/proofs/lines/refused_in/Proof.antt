@@ -4,26 +4,7 @@ use Rattle.simulate.specs.LinesLaws.{refusedIn}
 use Rattle.simulate.proofs.lines.refused_in.Statement.{statement}
 use Rattle.simulate.proofs.lines.refused_in.Tie as tie
 
-enum-told : tie.Need-enum-told
-enum-told c = search needs
-
-enum-told-2 : tie.Need-enum-told-2
-enum-told-2 c = search needs
-
-enum-told-3 : tie.Need-enum-told-3
-enum-told-3 c = search needs
-
-returns : tie.Need-returns
-unfolding refusedIn
-returns c = rw (c .enum-told .given .1)
-
-returns-2 : tie.Need-returns-2
-unfolding refusedIn
-returns-2 c = rw (c .enum-told2 .given .1)
-
-returns-3 : tie.Need-returns-3
-unfolding refusedIn
-returns-3 c = rw (c .enum-told3 .given .1)
-
 pub refused-in-spec : {M : Type 1} → statement M
-refused-in-spec = tie.close (tie.spec enum-told enum-told-2 enum-told-3 returns returns-2 returns-3)
+unfolding refusedIn
+refused-in-spec = tie.close (tie.spec (λ c. search needs) (λ c. search needs) (λ c. search needs)
+    (λ c. rw (c .enum-told .given .1)) (λ c. rw (c .enum-told2 .given .1)) (λ c. rw (c .enum-told3 .given .1)))

@@ -1,18 +1,15 @@
 -- The bench is the all-zero one, which `Bench::open` gives where it refuses.
 use borrow.Author.Needs.{needs}
-use Rattle.sets.specs.Truth.{_&&_, below, choose}
+use Rattle.sets.specs.Truth.{_&&_, below, oneTo, choose}
 use Rattle.bench.specs.Sound.{opens}
 use Rattle.bench.specs.Calls.{openOf}
 use Rattle.simulate.specs.Output.{unopened}
 use Rattle.simulate.proofs.opening.turned_away.Statement.{statement}
 use Rattle.simulate.proofs.opening.turned_away.Tie as tie
 
-open-requires : tie.Need-open-requires
-open-requires c κs = search needs
-
 returns : tie.Need-returns
-unfolding unopened openOf opens below _&&_ choose
+unfolding unopened openOf opens oneTo below _&&_ choose
 returns c = rw (c .before .«open» .ensures)
 
 pub turned-away-spec : {M : Type 1} → statement M
-turned-away-spec = tie.close (tie.spec open-requires returns)
+turned-away-spec = tie.close (tie.spec (λ c κs. search needs) returns)

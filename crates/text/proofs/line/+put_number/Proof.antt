@@ -23,58 +23,103 @@ put-number-at t = and 1 put-number-kinds.ps (is 1 put-number-kinds.ps μ-put-num
 abbrev put-number-below : ℕ → In 1 put-number-kinds.ps
 put-number-below t = and 1 put-number-kinds.ps (falls 1 put-number-kinds.ps _<_ μ-put-number t) put-number.Pre
 
-cast-put-byte : (t : ℕ) → put-number-lts.Need-cast-put-byte (put-byte-reads.Asked, put-byte-reads.Learnt, put-number-below t, put-number.Post) (put-number-at t) put-number.Post
+cast-put-byte : (t : ℕ)
+    → put-number-lts.Need-cast-put-byte
+    (put-byte-reads.Asked, put-byte-reads.Learnt, put-number-below t, put-number.Post)
+    (put-number-at t) put-number.Post
 cast-put-byte t c =
     omega arith
 
-add-put-byte : (t : ℕ) → put-number-lts.Need-add-put-byte (put-byte-reads.Asked, put-byte-reads.Learnt, put-number-below t, put-number.Post) (put-number-at t) put-number.Post
+add-put-byte : (t : ℕ)
+    → put-number-lts.Need-add-put-byte
+    (put-byte-reads.Asked, put-byte-reads.Learnt, put-number-below t, put-number.Post)
+    (put-number-at t) put-number.Post
 add-put-byte t c =
     omega arith
 
-put-byte-requires : (t : ℕ) → put-number-lts.Need-put-byte-requires (put-byte-reads.Asked, put-byte-reads.Learnt, put-number-below t, put-number.Post) (put-number-at t) put-number.Post
+put-byte-requires : (t : ℕ)
+    → put-number-lts.Need-put-byte-requires
+    (put-byte-reads.Asked, put-byte-reads.Learnt, put-number-below t, put-number.Post)
+    (put-number-at t) put-number.Post
 put-byte-requires t c κs =
-    let a = c .before .before .before .args in omega (arith, c .before .before .before .pre .1, ap length (decimal-low (a .x) (c .before .if1 .taken)))
+    let a = c .before .before .before .args in
+    omega (arith, c .before .before .before .pre .1, ap length (decimal-low (a .x) (c .before .if1 .taken)))
 
-put-number-requires : (t : ℕ) → put-number-lts.Need-put-number-requires (put-byte-reads.Asked, put-byte-reads.Learnt, put-number-below t, put-number.Post) (put-number-at t) put-number.Post
+put-number-requires : (t : ℕ)
+    → put-number-lts.Need-put-number-requires
+    (put-byte-reads.Asked, put-byte-reads.Learnt, put-number-below t, put-number.Post)
+    (put-number-at t) put-number.Post
 put-number-requires t c κs =
     let a = c .before .before .before .args in
-    let l = c .before .if1 .left in
-    (omega (arith, c .before .before .before .pre .0), omega (arith, c .before .before .before .pre .1, length-more (a .x) l))
+    let l = c .before .if1 .left in (
+      omega (arith, c .before .before .before .pre .0),
+      omega (arith, c .before .before .before .pre .1, length-more (a .x) l),
+    )
 
-cast-put-byte-2 : (t : ℕ) → put-number-lts.Need-cast-put-byte-2 (put-byte-reads.Asked, put-byte-reads.Learnt, put-number-below t, put-number.Post) (put-number-at t) put-number.Post
+cast-put-byte-2 : (t : ℕ)
+    → put-number-lts.Need-cast-put-byte-2
+    (put-byte-reads.Asked, put-byte-reads.Learnt, put-number-below t, put-number.Post)
+    (put-number-at t) put-number.Post
 cast-put-byte-2 t c =
     omega arith
 
-add-put-byte-2 : (t : ℕ) → put-number-lts.Need-add-put-byte-2 (put-byte-reads.Asked, put-byte-reads.Learnt, put-number-below t, put-number.Post) (put-number-at t) put-number.Post
+add-put-byte-2 : (t : ℕ)
+    → put-number-lts.Need-add-put-byte-2
+    (put-byte-reads.Asked, put-byte-reads.Learnt, put-number-below t, put-number.Post)
+    (put-number-at t) put-number.Post
 add-put-byte-2 t c =
     omega arith
 
-put-byte-requires-2 : (t : ℕ) → put-number-lts.Need-put-byte-requires-2 (put-byte-reads.Asked, put-byte-reads.Learnt, put-number-below t, put-number.Post) (put-number-at t) put-number.Post
+put-byte-requires-2 : (t : ℕ)
+    → put-number-lts.Need-put-byte-requires-2
+    (put-byte-reads.Asked, put-byte-reads.Learnt, put-number-below t, put-number.Post)
+    (put-number-at t) put-number.Post
 put-byte-requires-2 t c κs =
     let a = c .before .before .before .before .before .before .before .args in
     let p = c .before .before .before .put-number in
-    omega (arith, c .before .before .before .before .before .before .before .pre .1, length-more (a .x) (c .before .before .before .before .before .if1 .left), p .ensures .place, p .kept .0)
+    omega (
+      arith,
+      c .before .before .before .before .before .before .before .pre .1,
+      length-more (a .x) (c .before .before .before .before .before .if1 .left),
+      p .ensures .place,
+      p .kept .0,
+    )
 
-same-length : (t : ℕ) → put-number-lts.Need-same-length (put-byte-reads.Asked, put-byte-reads.Learnt, put-number-below t, put-number.Post) (put-number-at t) put-number.Post
+same-length : (t : ℕ)
+    → put-number-lts.Need-same-length
+    (put-byte-reads.Asked, put-byte-reads.Learnt, put-number-below t, put-number.Post)
+    (put-number-at t) put-number.Post
 same-length t c =
     c .before .before .put-byte .kept .0
 
-returns : (t : ℕ) → put-number-lts.Need-returns (put-byte-reads.Asked, put-byte-reads.Learnt, put-number-below t, put-number.Post) (put-number-at t) put-number.Post
+returns : (t : ℕ)
+    → put-number-lts.Need-returns (put-byte-reads.Asked, put-byte-reads.Learnt, put-number-below t, put-number.Post)
+    (put-number-at t) put-number.Post
 returns t c =
-    rw (decimal-low (c .before .before .before .before .before .before .args .x) (c .before .before .before .before .if1 .taken)) (c .before .before .put-byte .ensures)
+    rw (decimal-low (c .before .before .before .before .before .before .args .x)
+    (c .before .before .before .before .if1 .taken)) (c .before .before .put-byte .ensures)
 
-same-length-2 : (t : ℕ) → put-number-lts.Need-same-length-2 (put-byte-reads.Asked, put-byte-reads.Learnt, put-number-below t, put-number.Post) (put-number-at t) put-number.Post
+same-length-2 : (t : ℕ)
+    → put-number-lts.Need-same-length-2
+    (put-byte-reads.Asked, put-byte-reads.Learnt, put-number-below t, put-number.Post)
+    (put-number-at t) put-number.Post
 same-length-2 t c =
     c .before .before .put-byte2 .kept .0 ∙ c .before .before .before .before .before .before .put-number .kept .0
 
-returns-2 : (t : ℕ) → put-number-lts.Need-returns-2 (put-byte-reads.Asked, put-byte-reads.Learnt, put-number-below t, put-number.Post) (put-number-at t) put-number.Post
+returns-2 : (t : ℕ)
+    → put-number-lts.Need-returns-2 (put-byte-reads.Asked, put-byte-reads.Learnt, put-number-below t, put-number.Post)
+    (put-number-at t) put-number.Post
 returns-2 t c =
-    rw (decimal-more (c .before .before .before .before .before .before .before .before .before .before .args .x) (c .before .before .before .before .before .before .before .before .if1 .left))
-    (stores-then (c .before .before .before .before .before .before .put-number .ensures) (c .before .before .put-byte2 .ensures))
+    rw (decimal-more (c .before .before .before .before .before .before .before .before .before .before .args .x)
+    (c .before .before .before .before .before .before .before .before .if1 .left))
+    (stores-then (c .before .before .before .before .before .before .put-number .ensures)
+    (c .before .before .put-byte2 .ensures))
 
 pub +put-number-spec : {M : Type 1} → statement M
 +put-number-spec =
     close μ-put-number
     (λ t.
-    put-number-lts.spec (put-byte-reads.Asked, put-byte-reads.Learnt, put-number-below t, put-number.Post) (put-number-at t) put-number.Post
-    (cast-put-byte t) (add-put-byte t) (put-byte-requires t) (put-number-requires t) (cast-put-byte-2 t) (add-put-byte-2 t) (put-byte-requires-2 t) (same-length t) (returns t) (same-length-2 t) (returns-2 t))
+    put-number-lts.spec (put-byte-reads.Asked, put-byte-reads.Learnt, put-number-below t, put-number.Post)
+    (put-number-at t) put-number.Post
+    (cast-put-byte t) (add-put-byte t) (put-byte-requires t) (put-number-requires t) (cast-put-byte-2 t)
+    (add-put-byte-2 t) (put-byte-requires-2 t) (same-length t) (returns t) (same-length-2 t) (returns-2 t))

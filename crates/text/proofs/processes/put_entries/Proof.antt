@@ -2,10 +2,11 @@
 use mathlib.Core.Path.{_≡_}
 use mathlib.Core.List.{List}
 use Prim.Native.Nat.{ℕ, _-_, _*_, _≤_}
+use native.Mathlib.Nat.{le-antisymm}
 use borrow.Author.Needs.{needs}
 use Rattle.global_data.specs.declared.GlobalData.{GlobalData}
 use Rattle.global_data.specs.GlobalData.{entryOf}
-use Rattle.bench.specs.Calls.{joined}
+use Rattle.sets.specs.Lists.{joined}
 use Rattle.text.specs.Text.{entryText}
 use Rattle.text.specs.TextLaws.{Puts, puts-none, puts-length, puts-more, puts-room}
 use Rattle.text.proofs.processes.put_entries.Statement.{statement}
@@ -20,56 +21,25 @@ Inv-loop out₀ at n g present place₀ k₀ out place k = (k ≤ n) × Puts (11
 abbrev μ-loop : tie.MeasureT-loop
 μ-loop out₀ at n g present place₀ k₀ out place k = n - k
 
-loop-holds : tie.Need-loop-holds Inv-loop μ-loop
-unfolding joined
-loop-holds c = (search needs, puts-none (c .before .args .out .now) (c .before .args .at))
-
-member-requires : tie.Need-member-requires Inv-loop μ-loop
-member-requires c κs = search needs
-
-mul-put-entry : tie.Need-mul-put-entry Inv-loop μ-loop
-mul-put-entry c = search needs
-
-element-copy-out-put-entry : tie.Need-element-copy-out-put-entry Inv-loop μ-loop
-element-copy-out-put-entry c = search needs
-
 put-entry-requires : tie.Need-put-entry-requires Inv-loop μ-loop
 put-entry-requires c κs =
     let a = c .before .before .before .before .before .before .args in
-    puts-room 11 (textOf (a .t4)) (c .before .before .before .before .loop .inv .1) (a .n) (c .before .before .before .loop-test .taken) (c .before .before .before .before .before .before .pre .1)
-
-add-k : tie.Need-add-k Inv-loop μ-loop
-add-k c = search needs
-
-loop-less : tie.Need-loop-less Inv-loop μ-loop
-loop-less c = search needs
+    puts-room 11 (textOf (a .t4)) (c .before .before .before .before .loop .inv .1) (a .n)
+    (c .before .before .before .loop-test .taken) (c .before .before .before .before .before .before .pre .1)
 
 loop-again : tie.Need-loop-again Inv-loop μ-loop
 unfolding entryOf
-loop-again c =
-    (search needs, puts-more 11 (textOf (c .before .before .before .before .before .before .before .before .before .args .t4)) (c .before .before .before .before .before .before .before .loop .inv .1) (rw (c .before .before .before .before .member .ensures) at (c .before .before .put-entry .ensures)))
-
-same-length : tie.Need-same-length Inv-loop μ-loop
-same-length c = puts-length (c .before .loop .inv .1)
-
-returns : tie.Need-returns Inv-loop μ-loop
-returns c =
-    let e : c .before .loop .k ≡ c .before .before .before .args .n = search needs in
-    rw (← e) (c .before .loop .inv .1)
+loop-again c = (
+  search needs,
+  puts-more 11 (textOf (c .before .before .before .before .before .before .before .before .before .args .t4))
+      (c .before .before .before .before .before .before .before .loop .inv .1)
+      (rw (c .before .before .before .before .member .ensures) at (c .before .before .put-entry .ensures)),
+)
 
 pub put-entries-spec : {M : Type 1} → statement M
-put-entries-spec =
-    tie.close
-    (tie.spec
-    Inv-loop
-    μ-loop
-    loop-holds
-    member-requires
-    mul-put-entry
-    element-copy-out-put-entry
-    put-entry-requires
-    add-k
-    loop-less
-    loop-again
-    same-length
-    returns)
+unfolding joined
+put-entries-spec = tie.close (tie.spec Inv-loop μ-loop
+    (λ c. (search needs, puts-none (c .before .args .out .now) (c .before .args .at))) (λ c κs. search needs)
+    (λ c. search needs) (λ c. search needs) put-entry-requires (λ c. search needs) (λ c. search needs) loop-again
+    (λ c. puts-length (c .before .loop .inv .1))
+    (λ c. rw (le-antisymm (c .before .loop .inv .0) (c .loop-test .left)) at (c .before .loop .inv .1)))

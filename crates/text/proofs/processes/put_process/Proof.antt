@@ -1,4 +1,5 @@
 -- `put_process` stores the parts of the line one after another.
+use Prim.Native.Nat.{_+_, _≤_}
 use native.Mathlib.Omega.{arith}
 use borrow.Author.Needs.{needs}
 use Rattle.text.specs.Text.{processText}
@@ -6,115 +7,70 @@ use Rattle.text.specs.TextLaws.{stores-then}
 use Rattle.text.proofs.processes.put_process.Statement.{statement}
 use Rattle.text.proofs.processes.put_process.Tie as tie
 
-has-decided-requires : tie.Need-has-decided-requires
-has-decided-requires c κs = search needs
+-- ---- the places of the line's parts, seen from its end
+abbrev at-decided : tie.After-put-byte-arg2 → tie.After-put-field4
+at-decided c = c .before .before .before .before .before .before .before
 
-put-byte-requires : tie.Need-put-byte-requires
-put-byte-requires c κs = search needs
+abbrev at-round : tie.After-put-byte-arg2 → tie.After-put-field2
+at-round c = at-decided c .before .before .before .before .before .before .before .before .before .before
 
-add-put-field : tie.Need-add-put-field
-add-put-field c = search needs
+abbrev at-letter : tie.After-put-byte-arg2 → tie.After-put-byte
+at-letter c = at-round c .before .before .before .before .before .before .before .before .before
 
-put-field-requires : tie.Need-put-field-requires
-put-field-requires c κs = search needs
+abbrev at-start : tie.After-put-byte-arg2 → tie.Start
+at-start c = at-letter c .before .before .before .before .before
 
-cast-put-field : tie.Need-cast-put-field
-cast-put-field c = search needs
-
-put-field-requires-2 : tie.Need-put-field-requires-2
-put-field-requires-2 c κs = search needs
-
-flag-requires : tie.Need-flag-requires
-flag-requires c κs = search needs
-
-put-field-requires-3 : tie.Need-put-field-requires-3
-put-field-requires-3 c κs = search needs
-
-flag-requires-2 : tie.Need-flag-requires-2
-flag-requires-2 c κs = search needs
-
-put-field-requires-4 : tie.Need-put-field-requires-4
-put-field-requires-4 c κs = search needs
-
-put-entries-requires : tie.Need-put-entries-requires
-put-entries-requires c κs = search needs
+-- what is stored before the line's end takes at most 221 bytes
+so-far : (c : tie.After-put-byte-arg2) → c .before .before .before .put-entries .result ≤ at-start c .args .at + 221
+so-far c =
+    omega (
+      arith,
+      at-start c .pre .0,
+      at-letter c .put-byte .ensures .place,
+      at-round c .before .before .before .before .before .put-field .ensures .short,
+      at-round c .put-field2 .ensures .short,
+      at-decided c .before .before .before .before .before .put-field3 .ensures .short,
+      at-decided c .put-field4 .ensures .short,
+      c .before .before .before .put-entries .ensures .short,
+    )
 
 put-byte-requires-2 : tie.Need-put-byte-requires-2
 put-byte-requires-2 c κs =
-    let letter = c .before .before .before .before .before .before .before .before .before .before .before .before .before .before .before .before .before .before .before .before .before .before .before .before .before .before .put-byte in
-    let number = c .before .before .before .before .before .before .before .before .before .before .before .before .before .before .before .before .before .before .before .before .before .before .put-field in
-    let round = c .before .before .before .before .before .before .before .before .before .before .before .before .before .before .before .before .before .put-field2 in
-    let crash = c .before .before .before .before .before .before .before .before .before .before .before .before .put-field3 in
-    let decided = c .before .before .before .before .before .before .before .put-field4 in
-    let entries = c .before .before .before .put-entries in
     omega (
       arith,
-      c .before .before .before .before .before .before .before .before .before .before .before .before .before .before .before .before .before .before .before .before .before .before .before .before .before .before .before .before .before .before .before .pre .0,
-      c .before .before .before .before .before .before .before .before .before .before .before .before .before .before .before .before .before .before .before .before .before .before .before .before .before .before .before .before .before .before .before .pre .1,
-      letter .ensures .place,
-      number .ensures .short,
-      round .ensures .short,
-      crash .ensures .short,
-      decided .ensures .short,
-      entries .ensures .short,
-      letter .kept .0,
-      number .kept .0,
-      round .kept .0,
-      crash .kept .0,
-      decided .kept .0,
-      entries .kept .0,
+      so-far c,
+      at-start c .pre .1,
+      at-letter c .put-byte .kept .0,
+      at-round c .before .before .before .before .before .put-field .kept .0,
+      at-round c .put-field2 .kept .0,
+      at-decided c .before .before .before .before .before .put-field3 .kept .0,
+      at-decided c .put-field4 .kept .0,
+      c .before .before .before .put-entries .kept .0,
     )
-
-same-length : tie.Need-same-length
-same-length c = search needs
 
 returns : tie.Need-returns
 unfolding processText
 returns c =
-    let letter = c .before .before .before .before .before .before .before .before .before .before .before .before .before .before .before .before .before .before .before .before .before .before .before .before .before .before .before .before .before .put-byte in
-    let number = c .before .before .before .before .before .before .before .before .before .before .before .before .before .before .before .before .before .before .before .before .before .before .before .before .before .put-field in
-    let round = c .before .before .before .before .before .before .before .before .before .before .before .before .before .before .before .before .before .before .before .before .put-field2 in
-    let crash = c .before .before .before .before .before .before .before .before .before .before .before .before .before .before .before .put-field3 in
-    let decided = c .before .before .before .before .before .before .before .before .before .before .put-field4 in
-    let entries = c .before .before .before .before .before .before .put-entries in
+    let z = c .before .before .before in
+    let d = c .before .before .before .before .before .before .before .before .before .before in
+    let crash = d .before .before .before .before .before .put-field3 in
+    let w = at-letter z .before .before .has-decided .ensures in
+    let decided = d .put-field4 in
     let end = c .before .before .put-byte2 in
     record {
       stores =
-          stores-then (letter .ensures)
-          (stores-then (number .ensures .stores)
-          (stores-then (round .ensures .stores)
-          (stores-then (rw (c .before .before .before .before .before .before .before .before .before .before .before .before .before .before .before .before .flag .ensures) at (crash .ensures .stores))
-          (stores-then (rw (c .before .before .before .before .before .before .before .before .before .before .before .flag2 .ensures, c .before .before .before .before .before .before .before .before .before .before .before .before .before .before .before .before .before .before .before .before .before .before .before .before .before .before .before .before .before .before .before .has-decided .ensures) at (decided .ensures .stores))
-          (stores-then (entries .ensures .stores) (end .ensures))))));
-      short =
-          omega (
-            arith,
-            c .before .before .before .before .before .before .before .before .before .before .before .before .before .before .before .before .before .before .before .before .before .before .before .before .before .before .before .before .before .before .before .before .before .before .pre .0,
-            letter .ensures .place,
-            number .ensures .short,
-            round .ensures .short,
-            crash .ensures .short,
-            decided .ensures .short,
-            entries .ensures .short,
-            end .ensures .place,
-          );
+          stores-then (at-letter z .put-byte .ensures)
+          (stores-then (at-round z .before .before .before .before .before .put-field .ensures .stores)
+          (stores-then (at-round z .put-field2 .ensures .stores)
+          (stores-then
+          (rw (d .before .before .before .before .before .before .flag .ensures) at (crash .ensures .stores))
+          (stores-then (rw (d .before .flag2 .ensures, w) at (decided .ensures .stores))
+          (stores-then (z .before .before .before .put-entries .ensures .stores) (end .ensures))))));
+      short = omega (arith, so-far z, end .ensures .place);
     }
 
 pub put-process-spec : {M : Type 1} → statement M
-put-process-spec =
-    tie.close
-    (tie.spec
-    has-decided-requires
-    put-byte-requires
-    add-put-field
-    put-field-requires
-    cast-put-field
-    put-field-requires-2
-    flag-requires
-    put-field-requires-3
-    flag-requires-2
-    put-field-requires-4
-    put-entries-requires
-    put-byte-requires-2
-    same-length
+put-process-spec = tie.close (tie.spec (λ c κs. search needs) (λ c κs. search needs) (λ c. search needs)
+    (λ c κs. search needs) (λ c. search needs) (λ c κs. search needs) (λ c κs. search needs) (λ c κs. search needs)
+    (λ c κs. search needs) (λ c κs. search needs) (λ c κs. search needs) put-byte-requires-2 (λ c. search needs)
     returns)

@@ -7,7 +7,7 @@ use lib.ListN.{length}
 use borrow.Author.Needs.{needs}
 use Rattle.bench.specs.declared.Bench.{Bench}
 use Rattle.bench.specs.State.{processAt, crashedAt}
-use Rattle.bench.specs.Calls.{joined}
+use Rattle.sets.specs.Lists.{joined}
 use Rattle.bench.specs.TransitLaws.{stores-front}
 use Rattle.text.specs.Text.{processText, processesText}
 use Rattle.text.specs.TextLaws.{Puts, puts-none, puts-length, puts-more, puts-room}
@@ -27,39 +27,26 @@ loop-holds : tie.Need-loop-holds Inv-loop μ-loop
 unfolding joined
 loop-holds c = (search needs, puts-none (c .before .args .out .now) 0)
 
-cast-p : tie.Need-cast-p Inv-loop μ-loop
-cast-p c = search needs
-
-mul-p : tie.Need-mul-p Inv-loop μ-loop
-mul-p c = search needs
-
-element-copy-out-p : tie.Need-element-copy-out-p Inv-loop μ-loop
-element-copy-out-p c = search needs
-
-cast-member : tie.Need-cast-member Inv-loop μ-loop
-cast-member c = search needs
-
-member-requires : tie.Need-member-requires Inv-loop μ-loop
-member-requires c κs = search needs
-
 put-process-requires : tie.Need-put-process-requires Inv-loop μ-loop
 put-process-requires c κs =
-    let a = c .before .before .before .before .before .before .args in
-    (c .before .before .before .before .before .before .pre .0, puts-room 222 (textOf (a .t1)) (c .before .before .before .before .loop .inv .1) (a .t1 .n) (c .before .before .before .loop-test .taken) (omega (arith, c .before .before .before .before .before .before .pre .0, c .before .before .before .before .before .before .pre .1)))
-
-add-a : tie.Need-add-a Inv-loop μ-loop
-add-a c = search needs
-
-loop-less : tie.Need-loop-less Inv-loop μ-loop
-loop-less c = search needs
+    let a = c .before .before .before .before .before .before .args in (
+      c .before .before .before .before .before .before .pre .0,
+      puts-room 222 (textOf (a .t1)) (c .before .before .before .before .loop .inv .1) (a .t1 .n)
+          (c .before .before .before .loop-test .taken) (omega (
+            arith,
+            c .before .before .before .before .before .before .pre .0,
+            c .before .before .before .before .before .before .pre .1,
+          )),
+    )
 
 loop-again : tie.Need-loop-again Inv-loop μ-loop
 unfolding processAt crashedAt
-loop-again c =
-    (search needs, puts-more 222 (textOf (c .before .before .before .before .before .before .before .before .before .args .t1)) (c .before .before .before .before .before .before .before .loop .inv .1) (rw (c .before .before .before .member .ensures) at (c .before .before .put-process .ensures)))
-
-same-length : tie.Need-same-length Inv-loop μ-loop
-same-length c = puts-length (c .before .loop .inv .1)
+loop-again c = (
+  search needs,
+  puts-more 222 (textOf (c .before .before .before .before .before .before .before .before .before .args .t1))
+      (c .before .before .before .before .before .before .before .loop .inv .1)
+      (rw (c .before .before .before .member .ensures) at (c .before .before .put-process .ensures)),
+)
 
 returns : tie.Need-returns Inv-loop μ-loop
 unfolding processesText
@@ -68,24 +55,14 @@ returns c =
     let l = c .before .loop in
     let e : l .a ≡ a .t1 .n = search needs in
     let w = rw e at (l .inv .1) in
-    let z : l .place ≡ length (joined (a .t1 .n) (textOf (a .t1))) = omega (arith, w .stores .place) in
-    (z, rw z (stores-front (a .out .now) _ (l .out) (l .place) (omega (arith, w .short, z, c .before .before .before .pre .0, c .before .before .before .pre .1)) (w .stores)))
+    let z : l .place ≡ length (joined (a .t1 .n) (textOf (a .t1))) = omega (arith, w .stores .place) in (
+      z,
+      rw z (stores-front (a .out .now) _ (l .out) (l .place)
+          (omega (arith, w .short, z, c .before .before .before .pre .0, c .before .before .before .pre .1))
+          (w .stores)),
+    )
 
 pub put-processes-spec : {M : Type 1} → statement M
-put-processes-spec =
-    tie.close
-    (tie.spec
-    Inv-loop
-    μ-loop
-    loop-holds
-    cast-p
-    mul-p
-    element-copy-out-p
-    cast-member
-    member-requires
-    put-process-requires
-    add-a
-    loop-less
-    loop-again
-    same-length
-    returns)
+put-processes-spec = tie.close (tie.spec Inv-loop μ-loop loop-holds (λ c. search needs) (λ c. search needs)
+    (λ c. search needs) (λ c. search needs) (λ c κs. search needs) put-process-requires (λ c. search needs)
+    (λ c. search needs) loop-again (λ c. puts-length (c .before .loop .inv .1)) returns)

@@ -8,13 +8,14 @@ use native.Mathlib.Numerals.{add-one}
 use native.Mathlib.Omega.{arith}
 use lib.ListN.{length, getD, drop, drop-of-length-le}
 use lib.Seq.{drop-cons}
-use Rattle.sets.specs.Truth.{_&&_, and-on-r}
-use Rattle.bench.specs.Sound.{every}
+use Rattle.sets.specs.Truth.{_&&_}
+use Rattle.sets.specs.TruthLaws.{and-on-r}
+use Rattle.sets.specs.Lists.{everyIn}
 
 module _ {A : Type 0} (p : A → Bool) where
   -- a loop's flag and the elements from k on say together whether every one passes
   abbrev pub Tested : List A → ℕ → Bool → Type 0
-  Tested l k ok = (ok && every p (drop k l)) ≡ every p l
+  Tested l k ok = (ok && everyIn p (drop k l)) ≡ everyIn p l
 
   pub tested-none : (l : List A) → Tested l 0 true
   unfolding _&&_
@@ -23,10 +24,10 @@ module _ {A : Type 0} (p : A → Bool) where
   -- x is the test of the element at k
   pub tested-more : (d : A) (l : List A) (k : ℕ) (ok x : Bool) → k < length l → x ≡ p (getD l k d) → Tested l k ok
       → Tested l (k + 1) (core._&&_ ok x)
-  unfolding every _&&_
+  unfolding everyIn _&&_
   tested-more d l k true x h e t = rw (add-one, e) (rw (drop-cons l k d) at t)
   tested-more d l k false x h e t = t
 
-  pub tested-all : (l : List A) (k : ℕ) (ok : Bool) → length l ≤ k → Tested l k ok → ok ≡ every p l
-  unfolding every
+  pub tested-all : (l : List A) (k : ℕ) (ok : Bool) → length l ≤ k → Tested l k ok → ok ≡ everyIn p l
+  unfolding everyIn
   tested-all l k ok h t = sym (and-on-r ok true refl) ∙ (rw (drop-of-length-le l) at t)

@@ -1,4 +1,4 @@
--- The list f 0, f 1, .. f (n - 1), with the laws that a loop over an array uses.
+-- Laws of `each`, which a loop over an array uses.
 use mathlib.Core.Path.{_≡_, refl, sym, _∙_}
 use mathlib.Core.List.{List, [], _∷_, _++_, append-assoc, append-nil}
 use mathlib.Core.Logic.{⊎-elim}
@@ -7,11 +7,8 @@ use native.Mathlib.Numerals.{add-one}
 use native.Mathlib.Omega.{arith}
 use lib.ListN.{length, getD, set, drop, length-append, drop-of-length-le, List·getD-append}
 use lib.Seq.{drop-cons, set-at, getD-at, ext-getD}
-use Rattle.sets.specs.Truth.{le-or}
-
-unfoldable pub each {ℓ} : {A : Type ℓ} → ℕ → (ℕ → A) → List A
-each zero f = []
-each (suc n) f = each n f ++ (f n ∷ [])
+use Rattle.sets.specs.Lists.{each}
+use Rattle.sets.specs.TruthLaws.{le-or}
 
 module _ {ℓ} {A : Type ℓ} where
   pub length-each : (n : ℕ) (f : ℕ → A) → length (each n f) ≡ n

@@ -1,5 +1,5 @@
--- Demand 3, proved: after the history of any list of calls the bench has every invariant and holds what the history tells, and each part of the
--- demand is read off that one state.
+-- Demand 3, proved: after the history of any list of calls the bench has every invariant and holds what the history
+-- tells, and each part of the demand is read off that one state.
 use mathlib.Core.Path.{_≡_, sym, ap, _∙_}
 use mathlib.Core.Logic.{_≢_}
 use mathlib.Core.List.{List, [], _∷_, _++_}
@@ -9,35 +9,38 @@ use native.Mathlib.Omega.{arith}
 use lib.ListN.{length, getD, drop}
 use Rattle.sets.specs.Set.{has}
 use Rattle.sets.specs.Laws.{size-count}
-use Rattle.sets.specs.Count.{count}
-use Rattle.sets.specs.Each.{each}
-use Rattle.sets.specs.Truth.{below, Is, on, off, is}
+use Rattle.sets.specs.Lists.{count, each, everyIn}
+use Rattle.sets.specs.Truth.{below}
+use Rattle.sets.specs.TruthLaws.{Is, on, off, is}
 use Rattle.global_data.specs.declared.GlobalData.{GlobalData}
-use Rattle.global_data.specs.GlobalData.{absent, value, entryOf, sameTo}
+use Rattle.global_data.specs.declared.Entry.the-variants.{Absent, Value}
+use Rattle.global_data.specs.GlobalData.{entryOf, sameTo}
 use Rattle.global_data.specs.Laws.{entry-present, entry-absent, value-present, absent-clear, same-mk}
 use Rattle.process.specs.Steps.{hasDecided}
 use Rattle.bench.specs.declared.Shown.the-variants.{Marks, Refused}
 use Rattle.bench.specs.declared.Event.{Event}
 use Rattle.bench.specs.State.{processAt, crashedAt}
-use Rattle.bench.specs.Sound.{opens, every}
+use Rattle.bench.specs.Sound.{opens}
 use Rattle.bench.specs.SoundLaws.{sound-on}
 use Rattle.bench.specs.Refuse.{refusal}
 use Rattle.bench.specs.Calls.{refused, wordAt, showOf, shownIn}
-use Rattle.agreement.specs.History.{Call, history, reached, undecided, decidedOn, outcome, isDecided, beforeDecision, startedWith, crashedIn, crashCount, rounds}
-use Rattle.agreement.specs.Demand3.{isKind5, Demand3}
-use Rattle.agreement.specs.Replay.{Next, along, sizes-to, sizes-from, left-is, answers-are}
-use Rattle.agreement.specs.Good.{Good}
-use Rattle.agreement.specs.Agree.{agree, valid, rounds-crashes}
-use Rattle.agreement.specs.Records.{work-bound}
-use Rattle.agreement.specs.QuietEnd.{Still, quiet-end}
-use Rattle.agreement.specs.Bridge.{viewOf}
-use Rattle.agreement.specs.BridgeEvent.{still-view}
-use Rattle.agreement.specs.Outcomes.{decision-got, decision-none}
-use Rattle.agreement.specs.Along.{Along, along-opened, along-next}
-use Rattle.agreement.specs.Told.{Told, told-opened, told-next}
-use Rattle.agreement.specs.First.{Decided, first-opened, first-next, decided-is}
-use Rattle.agreement.specs.Shows.{shows-decided, hides-undecided}
-use Rattle.agreement.specs.Refused.{refused-events}
+use Rattle.agreement.specs.statement.History.{Call, history, afterHistory, undecided}
+use Rattle.agreement.specs.statement.History.{decidedOn, outcome, isDecided, beforeDecision}
+use Rattle.agreement.specs.statement.History.{startedWith, crashedIn, crashCount, rounds}
+use Rattle.agreement.specs.statement.Demand3.{isKind5, Demand3}
+use Rattle.agreement.specs.histories.Replay.{Next, along, sizes-to, sizes-from, left-is, answers-are}
+use Rattle.agreement.specs.invariants.Safety.{Good}
+use Rattle.agreement.specs.invariants.Agreement.{agree, valid, rounds-crashes}
+use Rattle.agreement.specs.invariants.RecordBound.{work-bound}
+use Rattle.agreement.specs.invariants.QuietEnd.{Still, quiet-end}
+use Rattle.agreement.specs.bridge.BenchView.{viewOf}
+use Rattle.agreement.specs.bridge.EveryEvent.{still-view}
+use Rattle.agreement.specs.histories.OneEvent.{decision-got, decision-none}
+use Rattle.agreement.specs.histories.InvariantsHold.{Along, along-opened, along-next}
+use Rattle.agreement.specs.histories.HistoryMatchesBench.{Told, told-opened, told-next}
+use Rattle.agreement.specs.histories.AbsentCrashed.{Decided, first-opened, first-next, decided-is}
+use Rattle.agreement.specs.histories.GlobalDataCall.{shows-decided, hides-undecided}
+use Rattle.agreement.specs.bridge.RefusedBytes.{refused-events}
 
 -- all that is shown by induction along a history
 record Account (n t : ℕ) (h : List Event) : Type 0 where
@@ -65,52 +68,57 @@ entry-same : (g g′ : GlobalData) (k : ℕ) → has (g .present) k ≡ has (g�
 entry-same g g′ k e f = go (is (has (g .present) k))
   where
     go : Is (has (g .present) k) → entryOf g k ≡ entryOf g′ k
-    go (on u) = entry-present g k u ∙ ap value (f u) ∙ sym (entry-present g′ k (sym e ∙ u))
+    go (on u) = entry-present g k u ∙ ap Value (f u) ∙ sym (entry-present g′ k (sym e ∙ u))
     go (off u) = entry-absent g k u ∙ sym (entry-absent g′ k (sym e ∙ u))
 
 module _ (n t : ℕ) (h : List Event) (A : Account n t h) where
   -- what x decided on is what it holds
   holds : (x : ℕ) (g : GlobalData) → outcome n t h x ≡ decidedOn g
-      → (hasDecided (processAt (reached n t h) x) ≡ true) × (processAt (reached n t h) x .estimate ≡ g)
+      → (hasDecided (processAt (afterHistory n t h) x) ≡ true) × (processAt (afterHistory n t h) x .estimate ≡ g)
   holds x g e = decision-got _ g (sym (A .told .outcome-is x) ∙ e)
 
-  good : Good n t (viewOf (reached n t h) (A .along-it .closers))
+  good : Good n t (viewOf (afterHistory n t h) (A .along-it .closers))
   good = A .along-it .fit .good
 
   -- two that have decided agree on every entry
-  same-entry : (x y k : ℕ) → k < n → hasDecided (processAt (reached n t h) x) ≡ true → hasDecided (processAt (reached n t h) y) ≡ true
-      → entryOf (processAt (reached n t h) x .estimate) k ≡ entryOf (processAt (reached n t h) y .estimate) k
+  same-entry : (x y k : ℕ) → k < n → hasDecided (processAt (afterHistory n t h) x) ≡ true
+      → hasDecided (processAt (afterHistory n t h) y) ≡ true
+      → entryOf (processAt (afterHistory n t h) x .estimate) k ≡ entryOf (processAt (afterHistory n t h) y .estimate) k
   unfolding viewOf
   same-entry x y k l d d′ =
       let E = agree n t _ (good .basic) (good .estimates) (good .decisions) x y d d′ k l in
       entry-same _ _ k (E .0) (E .1)
 
-  agreement-of : (x y : ℕ) (g g′ : GlobalData) → outcome n t h x ≡ decidedOn g → outcome n t h y ≡ decidedOn g′ → sameTo n g g′ ≡ true
+  agreement-of : (x y : ℕ) (g g′ : GlobalData) → outcome n t h x ≡ decidedOn g → outcome n t h y ≡ decidedOn g′
+      → sameTo n g g′ ≡ true
   agreement-of x y g g′ e e′ =
       let (d, u) = holds x g e in
       let (d′, u′) = holds y g′ e′ in
-      same-mk n g g′ (λ k l. ap (λ (f : GlobalData). entryOf f k) (sym u) ∙ same-entry x y k l d d′ ∙ ap (λ (f : GlobalData). entryOf f k) u′)
+      same-mk n g g′ (λ k l.
+      ap (λ (f : GlobalData). entryOf f k) (sym u) ∙ same-entry x y k l d d′ ∙ ap (λ (f : GlobalData). entryOf f k) u′)
 
-  validity-of : (x k v : ℕ) (g : GlobalData) → outcome n t h x ≡ decidedOn g → entryOf g k ≡ value v → startedWith h k ≡ value v
+  validity-of : (x k v : ℕ) (g : GlobalData) → outcome n t h x ≡ decidedOn g → entryOf g k ≡ Value v
+      → startedWith h k ≡ Value v
   unfolding viewOf
   validity-of x k v g e w =
       let (d, u) = holds x g e in
-      let w′ : entryOf (processAt (reached n t h) x .estimate) k ≡ value v = rw u w in
+      let w′ : entryOf (processAt (afterHistory n t h) x .estimate) k ≡ Value v = rw u w in
       let p = value-present _ k v w′ in
       let E = valid n t _ (good .basic) (good .estimates) (good .decisions) x k d p in
-      A .told .begun k .started (E .1) ∙ ap value (sym (E .0)) ∙ sym (entry-present _ k p) ∙ w′
+      A .told .begun k .started (E .1) ∙ ap Value (sym (E .0)) ∙ sym (entry-present _ k p) ∙ w′
 
-  absence-of : (x k : ℕ) (g : GlobalData) → x < n → k < n → outcome n t h x ≡ decidedOn g → entryOf g k ≡ absent
+  absence-of : (x k : ℕ) (g : GlobalData) → x < n → k < n → outcome n t h x ≡ decidedOn g → entryOf g k ≡ Absent
       → crashedIn (beforeDecision n t h) k ≡ true
   absence-of x k g l kn e w =
       let (d, u) = holds x g e in
       let F = A .first x l d in
       F .absence k kn (absent-clear _ k (same-entry (F .who) x k kn (F .decided) d ∙ rw u w))
 
-  crashes-of : count n (viewOf (reached n t h) (A .along-it .closers) .crashed) ≡ crashCount h
+  crashes-of : count n (viewOf (afterHistory n t h) (A .along-it .closers) .crashed) ≡ crashCount h
   unfolding viewOf crashedAt
   crashes-of =
-      sym (size-count n (reached n t h .crashed) (sizes-from n t h (λ m u. reached n t h .crashed < 2 ^ m) (sound-on _ (A .along-it .sound) .crashed)))
+      sym (size-count n (afterHistory n t h .crashed)
+      (sizes-from n t h (λ m u. afterHistory n t h .crashed < 2 ^ m) (sound-on _ (A .along-it .sound) .crashed)))
       ∙ sym (A .told .crashes-is)
 
   last-round-of : (x : ℕ) → rounds n t h x ≤ t + 1
@@ -120,31 +128,44 @@ module _ (n t : ℕ) (h : List Event) (A : Account n t h) where
   early-round-of : (x : ℕ) → rounds n t h x ≤ 3 * crashCount h + 2
   unfolding viewOf
   early-round-of x =
-      omega (arith, A .told .round-is x, crashes-of, rounds-crashes n t _ (good .basic) (good .estimates) (good .decisions) x)
+      omega (
+        arith,
+        A .told .round-is x,
+        crashes-of,
+        rounds-crashes n t _ (good .basic) (good .estimates) (good .decisions) x,
+      )
 
   records-of : length h ≤ 2 * n * (t + 1) + 2 * n * (n - 1) * (t + 2)
   records-of = omega (arith, A .along-it .fit .worked, work-bound (good .basic))
 
-  quiet-of : ((bytes : List ℕ) → every (λ b. below b 256) bytes ≡ true → isKind5 bytes ≡ false → refusal (reached n t h) bytes ≢ 0)
+  quiet-of : ((bytes : List ℕ) → everyIn (λ b. below b 256) bytes ≡ true → isKind5 bytes ≡ false
+      → refusal (afterHistory n t h) bytes ≢ 0)
       → (x : ℕ) → x < n → crashedIn h x ≡ false → isDecided (outcome n t h x) ≡ true
   unfolding viewOf
   quiet-of f x l c =
-      let S = still-view (reached n t h) (A .along-it .closers) (A .along-it .sound) (refused-events (reached n t h) (A .along-it .sound) f) in
+      let S = still-view (afterHistory n t h) (A .along-it .closers) (A .along-it .sound)
+      (refused-events (afterHistory n t h) (A .along-it .sound) f) in
       decided-is n t h (A .told) x
-      ∙ quiet-end n t _ (good .basic) (A .along-it .fit .wire) (sizes-from n t h (λ m u. Still m u (viewOf (reached n t h) (A .along-it .closers))) S) x l
+      ∙ quiet-end n t _ (good .basic) (A .along-it .fit .wire)
+      (sizes-from n t h (λ m u. Still m u (viewOf (afterHistory n t h) (A .along-it .closers))) S) x l
       (sym (A .told .crashed-is x) ∙ c)
 
   shows-of : (x : ℕ) (g : GlobalData) (out : List ℕ) → x < n → n ≤ length out → outcome n t h x ≡ decidedOn g
-      → (showOf (reached n t h) (suc x) out ≡ Marks (g .present)) × (shownIn (reached n t h) (suc x) out ≡ each n (wordAt g) ++ drop n out)
+      → (showOf (afterHistory n t h) (suc x) out ≡ Marks (g .present))
+      × (shownIn (afterHistory n t h) (suc x) out ≡ each n (wordAt g) ++ drop n out)
   shows-of x g out l r e =
       let (d, u) = holds x g e in
-      sizes-from n t h (λ m v. (showOf (reached n t h) (suc x) out ≡ Marks (g .present)) × (shownIn (reached n t h) (suc x) out ≡ each m (wordAt g) ++ drop m out))
-      (rw u at (shows-decided (reached n t h) x out (A .along-it .sound) (sizes-to n t h (λ m v. x < m) l) (sizes-to n t h (λ m v. m ≤ length out) r) d))
+      sizes-from n t h (λ m v. (showOf (afterHistory n t h) (suc x) out ≡ Marks (g .present))
+      × (shownIn (afterHistory n t h) (suc x) out ≡ each m (wordAt g) ++ drop m out))
+      (rw u at (shows-decided (afterHistory n t h) x out (A .along-it .sound) (sizes-to n t h (λ m v. x < m) l)
+      (sizes-to n t h (λ m v. m ≤ length out) r) d))
 
   hides-of : (x : ℕ) (out : List ℕ) → x < n → n ≤ length out → outcome n t h x ≡ undecided
-      → (showOf (reached n t h) (suc x) out ≡ Refused (refused 11)) × (shownIn (reached n t h) (suc x) out ≡ out)
+      → (showOf (afterHistory n t h) (suc x) out ≡ Refused (refused 11))
+      × (shownIn (afterHistory n t h) (suc x) out ≡ out)
   hides-of x out l r e =
-      hides-undecided (reached n t h) x out (A .along-it .sound) (sizes-to n t h (λ m v. x < m) l) (sizes-to n t h (λ m v. m ≤ length out) r)
+      hides-undecided (afterHistory n t h) x out (A .along-it .sound) (sizes-to n t h (λ m v. x < m) l)
+      (sizes-to n t h (λ m v. m ≤ length out) r)
       (decision-none _ (sym (A .told .outcome-is x) ∙ e))
 
 pub demand3 : (n t : ℕ) (calls : List Call) → opens n t ≡ true → Demand3 n t calls

@@ -1,0 +1,57 @@
+-- Demand 3 as one statement, over every list of calls on an opened bench. The theorem is in ../Theorem.antt.
+use mathlib.Core.Path.{_≡_}
+use mathlib.Core.Logic.{_≢_}
+use mathlib.Core.List.{List, _++_}
+use mathlib.Core.Bool.{Bool, true, false}
+use Prim.Native.Nat.{ℕ, suc, _+_, _-_, _*_, _≤_, _<_}
+use lib.ListN.{length, getD, drop}
+use Rattle.sets.specs.Lists.{each, everyIn}
+use Rattle.sets.specs.Truth.{_&&_, same, below}
+use Rattle.global_data.specs.declared.GlobalData.{GlobalData}
+use Rattle.global_data.specs.declared.Entry.the-variants.{Absent, Value}
+use Rattle.global_data.specs.GlobalData.{entryOf, sameTo}
+use Rattle.bench.specs.declared.Shown.{Shown}
+use Rattle.bench.specs.declared.Shown.the-variants.{Marks, Refused}
+use Rattle.bench.specs.Refuse.{refusal}
+use Rattle.bench.specs.Calls.{refused, wordAt, showOf, shownIn}
+use Rattle.agreement.specs.statement.History.{Call, afterCalls, answers, history, afterHistory, ruled}
+use Rattle.agreement.specs.statement.History.{Outcome, undecided, decidedOn, outcome, isDecided}
+use Rattle.agreement.specs.statement.History.{beforeDecision, startedWith, crashedIn, crashCount, rounds}
+
+-- a record of kind 5
+unfoldable pub isKind5 : List ℕ → Bool
+isKind5 bytes = same (length bytes) 8 && same (getD bytes 0 0) 5
+
+pub record Demand3 (n t : ℕ) (calls : List Call) : Type 0 where
+  -- a: the bench left is where the protocol steps take the opened one over the history,
+  -- and every call gave what the rules give there
+  pub bench : afterCalls n t calls ≡ afterHistory n t (history n t calls)
+  pub given : answers n t calls ≡ ruled n t calls
+  -- b: the global data call on the bench left, with a long enough slice, shows what x decided on,
+  -- exactly where it has decided
+  pub shows : (x : ℕ) (g : GlobalData) (out : List ℕ) → x < n → n ≤ length out
+      → outcome n t (history n t calls) x ≡ decidedOn g
+      → (showOf (afterCalls n t calls) (suc x) out ≡ Marks (g .present))
+      × (shownIn (afterCalls n t calls) (suc x) out ≡ each n (wordAt g) ++ drop n out)
+  pub hides : (x : ℕ) (out : List ℕ) → x < n → n ≤ length out → outcome n t (history n t calls) x ≡ undecided
+      → (showOf (afterCalls n t calls) (suc x) out ≡ Refused (refused 11))
+      × (shownIn (afterCalls n t calls) (suc x) out ≡ out)
+  -- c: agreement, of crashed processes too
+  pub agreement : (x y : ℕ) (g h : GlobalData) → x < n → y < n → outcome n t (history n t calls) x ≡ decidedOn g
+      → outcome n t (history n t calls) y ≡ decidedOn h → sameTo n g h ≡ true
+  -- d: validity: a present entry is the value of that process's start
+  pub validity : (x k v : ℕ) (g : GlobalData) → x < n → k < n → outcome n t (history n t calls) x ≡ decidedOn g
+      → entryOf g k ≡ Value v → startedWith (history n t calls) k ≡ Value v
+  -- e: an absent entry only where that process crashed before the first decision
+  pub absence : (x k : ℕ) (g : GlobalData) → x < n → k < n → outcome n t (history n t calls) x ≡ decidedOn g
+      → entryOf g k ≡ Absent → crashedIn (beforeDecision n t (history n t calls)) k ≡ true
+  -- f: the rounds opened, with as many crashes as the history has
+  pub last-round : (x : ℕ) → x < n → rounds n t (history n t calls) x ≤ t + 1
+  pub early-round : (x : ℕ) → x < n → rounds n t (history n t calls) x ≤ 3 * crashCount (history n t calls) + 2
+  -- g: the number of records
+  pub records : length (history n t calls) ≤ 2 * n * (t + 1) + 2 * n * (n - 1) * (t + 2)
+  -- h: the quiet end: where all bytes are refused that are not a record of kind 5, every running process has decided
+  pub quiet-end : ((bytes : List ℕ) → everyIn (λ b. below b 256) bytes ≡ true → isKind5 bytes ≡ false
+      → refusal (afterCalls n t calls) bytes ≢ 0)
+      → (x : ℕ) → x < n → crashedIn (history n t calls) x ≡ false
+      → isDecided (outcome n t (history n t calls) x) ≡ true

@@ -1,0 +1,220 @@
+-- What demand 3 speaks of (document 01): lists of calls, the history that they make,
+-- and what the rules give over a history.
+use mathlib.Core.List.{List, [], _∷_, _++_}
+use mathlib.Core.Bool.{Bool, true, false}
+use Prim.Native.Nat.{ℕ, zero, suc, _+_, _-_, _*_}
+use lib.ListN.{getD, length, take, drop}
+use Rattle.sets.specs.Truth.{_&&_, _||_, same, bit, choose}
+use Rattle.global_data.specs.declared.GlobalData.{GlobalData}
+use Rattle.global_data.specs.declared.Entry.{Entry}
+use Rattle.global_data.specs.declared.Entry.the-variants.{Absent, Value}
+use Rattle.process.specs.Steps.{takesPart, filledOf, decidesOf}
+use Rattle.bench.specs.declared.Bench.{Bench}
+use Rattle.bench.specs.declared.Counters.{Counters}
+use Rattle.bench.specs.declared.Answer.{Answer}
+use Rattle.bench.specs.declared.Cause.{Cause}
+use Rattle.bench.specs.declared.Cause.the-variants.{Empty, Spent, Refused as Refusing}
+use Rattle.bench.specs.declared.Message.{Message}
+use Rattle.bench.specs.declared.Message.the-variants.{Estimate, Decision}
+use Rattle.bench.specs.declared.Event.{Event}
+use Rattle.bench.specs.declared.Event.the-variants.{Start, Send, Arrive, Close, Crash, Suspect}
+use Rattle.bench.specs.declared.Decoded.{Decoded}
+use Rattle.bench.specs.declared.Decoded.the-variants.{Got, Refused}
+use Rattle.bench.specs.State.{processAt, openedOf}
+use Rattle.bench.specs.Record.{decodeOf}
+use Rattle.bench.specs.Refuse.{actor, isCrash, refusal}
+use Rattle.bench.specs.Effect.{effect, rowsAt}
+use Rattle.bench.specs.Calls.{refused, answerOf, openOf, stepOf, tallyOf, runOf}
+
+-- ---- the calls of a list: one record, with any bytes and any tally, or a run, with any bytes and any budget
+pub data Call : Type 0 where
+  one : List ℕ → Counters → Call
+  run : List ℕ → ℕ → Call
+
+-- what a call hands back besides the bench: the answer and the tally, or how many were accepted,
+-- the cause and the bytes not taken
+pub data Given : Type 0 where
+  stepped : Answer → Counters → Given
+  ran : ℕ → Cause → List ℕ → Given
+
+-- ---- the calls as the contracts have them, one after the other from the opened bench
+unfoldable pub afterCall : Call → Bench → Bench
+afterCall (one bytes tally) s = stepOf s bytes .bench
+afterCall (run bytes budget) s = runOf budget bytes s .bench
+
+unfoldable pub givenBy : Call → Bench → Given
+givenBy (one bytes tally) s = stepped (stepOf s bytes .answer) (tallyOf s bytes tally)
+givenBy (run bytes budget) s =
+    let e = runOf budget bytes s in
+    ran (e .accepted) (e .cause) (drop (e .taken) bytes)
+
+unfoldable pub afterCallsFrom : Bench → List Call → Bench
+afterCallsFrom s [] = s
+afterCallsFrom s (c ∷ calls) = afterCallsFrom (afterCall c s) calls
+
+unfoldable pub answersFrom : Bench → List Call → List Given
+answersFrom s [] = []
+answersFrom s (c ∷ calls) = givenBy c s ∷ answersFrom (afterCall c s) calls
+
+-- the bench that the calls left, and what they gave
+unfoldable pub afterCalls : ℕ → ℕ → List Call → Bench
+afterCalls n t calls = afterCallsFrom (openOf n t .bench) calls
+
+unfoldable pub answers : ℕ → ℕ → List Call → List Given
+answers n t calls = answersFrom (openOf n t .bench) calls
+
+-- ---- the history: the accepted records in order, worked from what the calls are given
+-- where the protocol steps take a bench over some records
+unfoldable pub afterEvents : Bench → List Event → Bench
+afterEvents s [] = s
+afterEvents s (e ∷ h) = afterEvents (effect e s) h
+
+-- where they take the opened bench
+unfoldable pub afterHistory : ℕ → ℕ → List Event → Bench
+afterHistory n t h = afterEvents (openedOf n t) h
+
+-- the event of some bytes, if they are one
+unfoldable pub eventIn : Decoded → List Event
+eventIn (Got e) = e ∷ []
+eventIn (Refused r) = []
+
+-- the number by which some bytes are refused after the history h; 0 where they are accepted
+unfoldable pub refusedAfter : ℕ → ℕ → List Event → List ℕ → ℕ
+refusedAfter n t h bytes = refusal (afterHistory n t h) bytes
+
+-- one record adds itself if it is accepted there
+unfoldable pub addRecord : ℕ → ℕ → List Event → List ℕ → List Event
+addRecord n t h bytes = choose (same (refusedAfter n t h bytes) 0) (h ++ eventIn (decodeOf n t bytes)) h
+
+-- a run adds its records one by one, until its bytes are empty, its budget is spent or one is refused
+unfoldable pub addRun : ℕ → ℕ → ℕ → List Event → List ℕ → List Event
+addRun n t zero h bytes = h
+addRun n t (suc budget) h bytes =
+    choose (same (length bytes) 0) h
+    (choose (same (refusedAfter n t h (take 8 bytes)) 0)
+    (addRun n t budget (addRecord n t h (take 8 bytes)) (drop 8 bytes)) h)
+
+unfoldable pub addCall : ℕ → ℕ → List Event → Call → List Event
+addCall n t h (one bytes tally) = addRecord n t h bytes
+addCall n t h (run bytes budget) = addRun n t budget h bytes
+
+unfoldable pub historyFrom : ℕ → ℕ → List Event → List Call → List Event
+historyFrom n t h [] = h
+historyFrom n t h (c ∷ calls) = historyFrom n t (addCall n t h c) calls
+
+unfoldable pub history : ℕ → ℕ → List Call → List Event
+history n t calls = historyFrom n t [] calls
+
+-- ---- what the rules give a call after the history h
+-- why a run ends that has taken `taken` records and leaves `rest`, with the history h then
+unfoldable pub causeAfter : ℕ → ℕ → List Event → ℕ → ℕ → List ℕ → Cause
+causeAfter n t h budget taken rest =
+    choose (same (length rest) 0) Empty
+    (choose (same taken budget) Spent (Refusing (refused (refusedAfter n t h (take 8 rest)))))
+
+unfoldable pub ruledBy : ℕ → ℕ → List Event → Call → Given
+ruledBy n t h (one bytes tally) =
+    stepped (answerOf (refusedAfter n t h bytes)) (tallyOf (afterHistory n t h) bytes tally)
+ruledBy n t h (run bytes budget) =
+    let h′ = addRun n t budget h bytes in
+    let taken = length h′ - length h in
+    let rest = drop (8 * taken) bytes in
+    ran taken (causeAfter n t h′ budget taken rest) rest
+
+unfoldable pub ruledFrom : ℕ → ℕ → List Event → List Call → List Given
+ruledFrom n t h [] = []
+ruledFrom n t h (c ∷ calls) = ruledBy n t h c ∷ ruledFrom n t (addCall n t h c) calls
+
+unfoldable pub ruled : ℕ → ℕ → List Call → List Given
+ruled n t calls = ruledFrom n t [] calls
+
+-- ---- decisions, worked over a history
+pub data Outcome : Type 0 where
+  undecided : Outcome
+  decidedOn : GlobalData → Outcome
+
+-- whether a record decides x, and on what: step 5, a close of x that decides, or step 7, a decision that x takes over
+unfoldable pub decidesAt : Event → Bench → ℕ → Outcome
+decidesAt (Start a v) s x = undecided
+decidesAt (Send a b) s x = undecided
+decidesAt (Arrive a b (Estimate r)) s x = undecided
+decidesAt (Arrive a b Decision) s x =
+    choose (same b x && takesPart (processAt s b)) (decidedOn (processAt s a .estimate)) undecided
+decidesAt (Close a) s x =
+    let p = processAt s a in
+    let rows = rowsAt s (p .round) in
+    choose (same a x && decidesOf (s .n) (s .t) a rows p) (decidedOn (filledOf a rows p)) undecided
+decidesAt (Crash a) s x = undecided
+decidesAt (Suspect a b) s x = undecided
+
+-- the first of two that decides
+unfoldable pub firstDecided : Outcome → Outcome → Outcome
+firstDecided undecided o = o
+firstDecided (decidedOn g) o = decidedOn g
+
+unfoldable pub outcomeFrom : Bench → List Event → ℕ → Outcome
+outcomeFrom s [] x = undecided
+outcomeFrom s (e ∷ h) x = firstDecided (decidesAt e s x) (outcomeFrom (effect e s) h x)
+
+-- on what x has decided over the history h
+unfoldable pub outcome : ℕ → ℕ → List Event → ℕ → Outcome
+outcome n t h x = outcomeFrom (openedOf n t) h x
+
+unfoldable pub isDecided : Outcome → Bool
+isDecided undecided = false
+isDecided (decidedOn g) = true
+
+-- one of the processes below k is decided by a record
+unfoldable pub decidesAny : ℕ → Event → Bench → Bool
+decidesAny zero e s = false
+decidesAny (suc k) e s = isDecided (decidesAt e s k) || decidesAny k e s
+
+-- the records before the first decision
+unfoldable pub beforeFrom : Bench → List Event → List Event
+beforeFrom s [] = []
+beforeFrom s (e ∷ h) = choose (decidesAny (s .n) e s) [] (e ∷ beforeFrom (effect e s) h)
+
+unfoldable pub beforeDecision : ℕ → ℕ → List Event → List Event
+beforeDecision n t h = beforeFrom (openedOf n t) h
+
+-- ---- starts, crashes and rounds in a history
+-- the value of the start of k
+unfoldable pub startedWith : List Event → ℕ → Entry
+startedWith [] k = Absent
+startedWith (Start a v ∷ h) k = choose (same a k) (Value v) (startedWith h k)
+startedWith (Send a b ∷ h) k = startedWith h k
+startedWith (Arrive a b m ∷ h) k = startedWith h k
+startedWith (Close a ∷ h) k = startedWith h k
+startedWith (Crash a ∷ h) k = startedWith h k
+startedWith (Suspect a b ∷ h) k = startedWith h k
+
+-- it is the crash of k
+unfoldable pub isCrashOf : Event → ℕ → Bool
+isCrashOf e k = isCrash e && same (actor e) k
+
+-- the crash of k stands there
+unfoldable pub crashedIn : List Event → ℕ → Bool
+crashedIn [] k = false
+crashedIn (e ∷ h) k = isCrashOf e k || crashedIn h k
+
+-- how many crashes there are: f
+unfoldable pub crashCount : List Event → ℕ
+crashCount [] = 0
+crashCount (e ∷ h) = bit (isCrash e) + crashCount h
+
+-- how many rounds a record opens at x: round 1 by its start, the next by each close that does not decide it
+unfoldable pub roundsOpened : Event → Bench → ℕ → ℕ
+roundsOpened (Start a v) s x = choose (same a x) 1 0
+roundsOpened (Send a b) s x = 0
+roundsOpened (Arrive a b m) s x = 0
+roundsOpened (Close a) s x = choose (same a x) (choose (isDecided (decidesAt (Close a) s x)) 0 1) 0
+roundsOpened (Crash a) s x = 0
+roundsOpened (Suspect a b) s x = 0
+
+unfoldable pub roundsFrom : Bench → List Event → ℕ → ℕ
+roundsFrom s [] x = 0
+roundsFrom s (e ∷ h) x = roundsOpened e s x + roundsFrom (effect e s) h x
+
+-- the last round that x has opened
+unfoldable pub rounds : ℕ → ℕ → List Event → ℕ → ℕ
+rounds n t h x = roundsFrom (openedOf n t) h x

@@ -1,3 +1,4 @@
-pub mod Lent
+mod Reading
 mod RunIn
 mod Walk
+pub mod Lent

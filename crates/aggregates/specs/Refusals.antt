@@ -4,7 +4,7 @@ use mathlib.Core.Bool.{Bool, true}
 use Prim.Native.Nat.{ℕ, _≤_}
 use native.Mathlib.Omega.{arith}
 use Rattle.sets.specs.Set.{within}
-use Rattle.sets.specs.Truth.{same, oneTo, choose, check}
+use Rattle.sets.specs.Truth.{same, oneTo, check}
 use Rattle.sets.specs.TruthLaws.{choose-on, choose-off, same-on, same-mk}
 use Rattle.sets.specs.TruthLaws.{same-off, one-low, one-high, check-on, check-zero}
 use Rattle.aggregates.specs.Aggregates.{refusalOf, unless}

@@ -7,8 +7,6 @@ ghost use mathlib.Core.Path.{_≡_};
 ghost use Prim.Native.Nat.{_<_, _≤_};
 ghost use lib.ListN.{length};
 ghost use lib.IntN.{pos, _-ℤ_};
-ghost use Rattle.sets.specs.Truth.{oneTo};
-ghost use Rattle.sets.specs.Set.{within};
 ghost use Rattle.aggregates.specs.Aggregates.{refusalOf, total, go, led, changed};
 ghost use Rattle.aggregates.specs.Aggregates.{totalOf, goOf, leadOf, changeOf};
 ghost use Rattle.aggregates.specs.Answers.{totalMeans, goMeans, leadMeans, changeMeans};

@@ -1,8 +1,8 @@
 -- What the calls for a process's global data and for the list in transit answer and write,
 -- by the first check that fails.
-use mathlib.Core.Path.{_≡_, refl, sym, ap, _∙_}
+use mathlib.Core.Path.{_≡_, ap, _∙_}
 use mathlib.Core.List.{List, _++_}
-use mathlib.Core.Bool.{Bool, true, false, not}
+use mathlib.Core.Bool.{true, false, not}
 use Prim.Native.Nat.{ℕ, suc, _-_, _/_, _≤_, _<_}
 use native.Mathlib.Omega.{arith}
 use lib.ListN.{length, drop}
@@ -11,9 +11,7 @@ use Rattle.sets.specs.Truth.{same, below, choose, oneTo, check}
 use Rattle.sets.specs.TruthLaws.{choose-on, choose-off, same-mk, same-off, below-mk, below-off, check-on, check-off}
 use Rattle.process.specs.Steps.{hasDecided}
 use Rattle.bench.specs.declared.Bench.{Bench}
-use Rattle.bench.specs.declared.Shown.{Shown}
 use Rattle.bench.specs.declared.Shown.the-variants.{Marks, Refused as RefusedShow}
-use Rattle.bench.specs.declared.Listed.{Listed}
 use Rattle.bench.specs.declared.Listed.the-variants.{Count, Refused as RefusedList}
 use Rattle.bench.specs.Sound.{soundOf}
 use Rattle.bench.specs.State.{processAt}

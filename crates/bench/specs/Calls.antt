@@ -1,17 +1,13 @@
 -- The calls (document 01, "The other calls"): open, one record with the tally, run, global data of a process.
 -- The list in transit: TransitList.
-use mathlib.Core.List.{List, [], _∷_, _++_}
-use mathlib.Core.Bool.{Bool, true, false, not}
-use Prim.Native.Nat.{ℕ, zero, suc, _+_, _-_, _*_, _/_}
+use mathlib.Core.List.{List, [], _++_}
+use mathlib.Core.Bool.{Bool, false, not}
+use Prim.Native.Nat.{ℕ, zero, suc, _+_, _-_}
 use lib.ListN.{getD, length, take, drop}
 use Rattle.sets.specs.Lists.{each}
 use Rattle.sets.specs.Set.{has}
 use Rattle.sets.specs.Truth.{_&&_, same, below, choose, oneTo, check}
 use Rattle.global_data.specs.declared.GlobalData.{GlobalData}
-use Rattle.global_data.specs.declared.Entry.{Entry}
-use Rattle.global_data.specs.declared.Entry.the-variants.{Absent, Value}
-use Rattle.global_data.specs.GlobalData.{entryOf, noData}
-use Rattle.process.specs.declared.Process.{Process}
 use Rattle.process.specs.Steps.{hasDecided}
 use Rattle.bench.specs.declared.Bench.{Bench}
 use Rattle.bench.specs.declared.Refusal.{Refusal}
@@ -27,7 +23,7 @@ use Rattle.bench.specs.declared.Counters.{Counters}
 use Rattle.bench.specs.declared.Ended.{Ended}
 use Rattle.bench.specs.declared.Decoded.{Decoded}
 use Rattle.bench.specs.declared.Decoded.the-variants.{Got, Refused as RefusedDecoded}
-use Rattle.bench.specs.State.{processAt, transitAt, openedOf}
+use Rattle.bench.specs.State.{processAt, openedOf}
 use Rattle.bench.specs.Sound.{opens, soundOf}
 use Rattle.bench.specs.Record.{decodeOf}
 use Rattle.bench.specs.Refuse.{isCrash, refusal}

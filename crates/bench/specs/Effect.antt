@@ -1,7 +1,6 @@
 -- What an accepted record does to the bench: the protocol steps of document 01, which `process` has for
 -- one process, and what they send.
 use mathlib.Core.List.{List}
-use mathlib.Core.Bool.{Bool, true, false}
 use Prim.Native.Nat.{ℕ}
 use Rattle.sets.specs.Set.{insertOf, removeOf}
 use Rattle.sets.specs.Truth.{choose}
@@ -9,7 +8,6 @@ use Rattle.global_data.specs.declared.GlobalData.{GlobalData}
 use Rattle.process.specs.declared.Process.{Process}
 use Rattle.process.specs.Steps.{hasDecided, startOf, receiveOf, closeOf, adoptOf, messageOf, sendOf, suspectOf}
 use Rattle.bench.specs.declared.Bench.{Bench}
-use Rattle.bench.specs.declared.Message.{Message}
 use Rattle.bench.specs.declared.Message.the-variants.{Estimate, Decision}
 use Rattle.bench.specs.declared.Event.{Event}
 use Rattle.bench.specs.declared.Event.the-variants.{Start, Send, Arrive, Close, Crash, Suspect}

@@ -1,6 +1,6 @@
 -- Records (document 01): 8 bytes, kind, a, b, r, then value, low byte first; and refusals 3, 4 and 5.
 use mathlib.Core.List.{List}
-use mathlib.Core.Bool.{Bool, true, false, not}
+use mathlib.Core.Bool.{Bool, not}
 use Prim.Native.Nat.{ℕ, _+_, _-_, _*_}
 use lib.ListN.{getD, length}
 use Rattle.sets.specs.Truth.{_&&_, _||_, same, below, oneTo, choose}

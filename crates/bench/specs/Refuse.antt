@@ -1,10 +1,9 @@
 -- What is turned away (document 01): the number of the first check that fails, in the order of the numbers, or 0.
 use mathlib.Core.List.{List}
 use mathlib.Core.Bool.{Bool, true, false, not}
-use Prim.Native.Nat.{ℕ, _+_, _-_}
+use Prim.Native.Nat.{ℕ}
 use Rattle.sets.specs.Set.{has, sizeOf, emptySet}
 use Rattle.sets.specs.Truth.{_&&_, _||_, same, below, check}
-use Rattle.process.specs.declared.Process.{Process}
 use Rattle.process.specs.Steps.{takesPart, dueOf}
 use Rattle.bench.specs.declared.Bench.{Bench}
 use Rattle.bench.specs.declared.Message.{Message}

@@ -4,13 +4,13 @@
 use mathlib.Core.Path.{_≡_, refl, sym, ap, _∙_}
 use mathlib.Core.Logic.{_≢_}
 use mathlib.Core.List.{List}
-use mathlib.Core.Bool.{Bool, true, false, not}
-use Prim.Native.Nat.{ℕ, _<_}
+use mathlib.Core.Bool.{true, false, not}
+use Prim.Native.Nat.{ℕ}
 use native.Mathlib.Omega.{arith}
 use lib.ListN.{length}
 use Rattle.sets.specs.Set.{sizeOf}
-use Rattle.sets.specs.TruthLaws.{or-mk-l, or-off-l, check-on, check-off, check-zero, Is, on}
-use Rattle.sets.specs.TruthLaws.{off, is, choose-on, choose-off, not-on, same-mk, same-off}
+use Rattle.sets.specs.TruthLaws.{or-mk-l, or-off-l, check-on, check-off, check-zero}
+use Rattle.sets.specs.TruthLaws.{choose-on, choose-off, not-on, same-mk, same-off}
 use Rattle.bench.specs.declared.Bench.{Bench}
 use Rattle.bench.specs.declared.Refusal.{Refusal}
 use Rattle.bench.specs.declared.Event.{Event}
@@ -20,7 +20,7 @@ use Rattle.bench.specs.State.{crashedAt}
 use Rattle.bench.specs.Sound.{soundOf}
 use Rattle.bench.specs.Record.{decodeOf}
 use Rattle.bench.specs.RecordLaws.{inRange, decode-from, decode-refused, decode-range}
-use Rattle.sets.specs.Truth.{check, below}
+use Rattle.sets.specs.Truth.{below}
 use Rattle.bench.specs.Refuse.{actor, isCrash, passes7, passes8, passes9, refuses, refusesDecoded, refusal}
 use Rattle.bench.specs.Effect.{effect, effectDecoded, effectOf}
 use Rattle.bench.specs.Calls.{afterRecord}

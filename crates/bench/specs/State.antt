@@ -1,6 +1,6 @@
 -- The bench's state: its parts, the bench with one part changed, and the opened bench.
 use mathlib.Core.List.{List, []}
-use mathlib.Core.Bool.{Bool, true, false}
+use mathlib.Core.Bool.{Bool}
 use Prim.Native.Nat.{ℕ, _+_, _-_, _*_}
 use lib.ListN.{getD, set, replicate}
 use Rattle.sets.specs.Set.{has, insertOf, emptySet}

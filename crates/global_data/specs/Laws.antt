@@ -7,7 +7,6 @@ use Prim.Native.Nat.{ℕ, zero, suc, _+_, _-_, _^_, _≤_, _<_}
 use native.Mathlib.Omega.{arith}
 use lib.ListN.{length, getD, replicate, length-set}
 use lib.Seq.{getD-set-same}
-use Rattle.sets.specs.Lists.{each}
 use Rattle.sets.specs.EachLaws.{length-each, getD-each}
 use Rattle.sets.specs.EveryLaws.{every-on, every-mk, every-not}
 use Rattle.sets.specs.Laws.{has-empty, has-insert, has-union, has-difference, union-lt}

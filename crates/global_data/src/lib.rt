@@ -2,11 +2,9 @@
 // bit is clear, and 0 is a value.
 ghost use mathlib.Core.Path.{_≡_};
 ghost use Prim.Native.Nat.{_<_, _≤_};
-ghost use lib.ListN.{getD};
-ghost use Rattle.sets.specs.Set.{has};
 ghost use Rattle.sets.specs.Truth.{choose};
 ghost use Rattle.global_data.specs.declared.Entry.{Entry};
-ghost use Rattle.global_data.specs.GlobalData.{entry, entryOf, sameEntry, nothingOf, oneOf};
+ghost use Rattle.global_data.specs.GlobalData.{entry, sameEntry, nothingOf, oneOf};
 ghost use Rattle.global_data.specs.GlobalData.{fillOf, fillFrom, sameTo, allSame, rowsOf};
 
 // An entry: document 01's blank, or a count.

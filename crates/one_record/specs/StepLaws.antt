@@ -4,23 +4,17 @@
 use mathlib.Core.Path.{_≡_, refl, sym, ap, _∙_}
 use mathlib.Core.Logic.{_≢_, _⊎_, inl, inr, ⊎-elim}
 use mathlib.Core.List.{List, [], _∷_}
-use mathlib.Core.Bool.{Bool, true, false, not}
-use Prim.Native.Nat.{ℕ, zero, suc, _-_, _≤_, _<_}
+use mathlib.Core.Bool.{Bool, true, false}
+use Prim.Native.Nat.{ℕ, zero, suc, _≤_, _<_}
 use native.Mathlib.Omega.{arith}
 use lib.ListN.{length, getD, take, drop, length-drop}
 use lib.Seq.{take-all}
 use Rattle.sets.specs.Truth.{_&&_, same, choose}
 use Rattle.sets.specs.TruthLaws.{Is, on, off, is, choose-on, choose-off, and-off-l, same-on, same-mk, same-off, eq-or}
 use Rattle.bench.specs.declared.Bench.{Bench}
-use Rattle.bench.specs.declared.Answer.{Answer}
 use Rattle.bench.specs.declared.Answer.the-variants.{Accepted, Refused}
-use Rattle.bench.specs.declared.Cause.{Cause}
-use Rattle.bench.specs.declared.Cause.the-variants.{Empty, Spent, Refused as RefusedRun}
 use Rattle.bench.specs.declared.Decoded.the-variants.{Got}
 use Rattle.bench.specs.declared.Counters.{Counters}
-use Rattle.bench.specs.declared.Stepped.{Stepped}
-use Rattle.one_record.specs.declared.Counted.{Counted}
-use Rattle.bench.specs.declared.Ended.{Ended}
 use Rattle.bench.specs.declared.Refusal.{Refusal}
 use Rattle.bench.specs.Sound.{soundOf}
 use Rattle.bench.specs.Record.{eventOf, decodeOf}
@@ -28,7 +22,7 @@ use Rattle.bench.specs.RecordLaws.{decode-from, decode-size}
 use Rattle.bench.specs.Refuse.{refusal, isCrash}
 use Rattle.bench.specs.RefuseLaws.{refusal-damaged, refusal-unread, accepted}
 use Rattle.bench.specs.Effect.{effectOf}
-use Rattle.bench.specs.Calls.{refused, answerOf, afterRecord, stepOf, more}
+use Rattle.bench.specs.Calls.{refused, answerOf, afterRecord, stepOf}
 use Rattle.bench.specs.Calls.{tallied, crashIn, tallyOf, endedOf, runFrom, runOf}
 use Rattle.one_record.specs.OneRecord.{recordIn, answerTo, steppedBy, isAccepted, crashByte}
 use Rattle.bench.specs.RunLaws.{run-empty, run-refused, run-accepted, run-damaged, run-sound}

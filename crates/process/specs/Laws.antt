@@ -10,7 +10,7 @@ use native.Mathlib.Omega.{arith}
 use lib.ListN.{length, getD, set, replicate, length-set}
 use lib.Pow.{pow-pos}
 use lib.Seq.{getD-set-same, getD-set-other}
-use Rattle.sets.specs.Set.{has, insertOf, removeOf, allOf}
+use Rattle.sets.specs.Set.{has, insertOf, removeOf}
 use Rattle.sets.specs.Lists.{each}
 use Rattle.sets.specs.EachLaws.{each-getD}
 use Rattle.sets.specs.Truth.{_&&_, _||_, same, below, choose}

@@ -1,7 +1,7 @@
 -- The protocol steps of document 01, 1 to 7, as they change one process. `n` is how many processes there are,
 -- `a` the number of this one, from 0.
-use mathlib.Core.List.{List, []}
-use mathlib.Core.Bool.{Bool, true, false, not}
+use mathlib.Core.List.{[]}
+use mathlib.Core.Bool.{Bool, not}
 use Prim.Native.Nat.{ℕ, _+_, _-_}
 use lib.ListN.{getD, set, replicate}
 use Rattle.sets.specs.Set.{has, insertOf, removeOf, unionOf, intersectionOf, differenceOf, allOf, emptySet}

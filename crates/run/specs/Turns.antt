@@ -20,7 +20,7 @@ use Rattle.global_data.specs.GlobalData.{noData, fillOf, fillFrom, sameTo, allS
 use Rattle.process.specs.declared.Process.{Process}
 use Rattle.process.specs.Laws.{decide-decided}
 use Rattle.process.specs.Steps.{hasDecided, noProcess, openRoundOf, startOf, peersOf, filledOf, agreedOf, decidesOf}
-use Rattle.process.specs.Steps.{decideOf, advanceOf, closeOf, messageOf, sendOf, suspectOf, receiveOf, adoptOf}
+use Rattle.process.specs.Steps.{advanceOf, closeOf, messageOf, sendOf, suspectOf, receiveOf, adoptOf}
 use Rattle.bench.specs.declared.Bench.{Bench}
 use Rattle.bench.specs.declared.Refusal.{Refusal}
 use Rattle.bench.specs.declared.Message.{Message}

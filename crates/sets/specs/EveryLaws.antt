@@ -5,7 +5,6 @@ use mathlib.Core.Logic.{⊎-elim}
 use mathlib.Core.Bool.{Bool, true, false}
 use Prim.Native.Nat.{ℕ, zero, suc, _<_}
 use native.Mathlib.Omega.{arith}
-use Rattle.sets.specs.Truth.{_&&_}
 use Rattle.sets.specs.TruthLaws.{and-l, and-r, and-mk, and-cases, clash, eq-or}
 use Rattle.sets.specs.Lists.{every}
 

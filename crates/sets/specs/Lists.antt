@@ -1,5 +1,5 @@
 -- Over the numbers below n, and over lists: each, joined, every, how many, their sum.
-use mathlib.Core.Bool.{Bool, true, false}
+use mathlib.Core.Bool.{Bool, true}
 use mathlib.Core.List.{List, [], _∷_, _++_}
 use Prim.Native.Nat.{ℕ, zero, suc, _+_}
 use Rattle.sets.specs.Truth.{_&&_, bit}

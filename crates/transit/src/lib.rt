@@ -9,7 +9,7 @@ ghost use Prim.Native.Nat.{ℕ, _+_, _*_, _^_, _≤_, _<_};
 ghost use lib.ListN.{length, getD};
 ghost use Rattle.sets.specs.Lists.{joined};
 ghost use Rattle.bench.specs.TransitList.{listOf, listedIn};
-ghost use Rattle.bench.specs.TransitLaws.{setBytes, senderBytes, roundBytes, Stores};
+ghost use Rattle.bench.specs.TransitLaws.{setBytes, roundBytes, Stores};
 
 // Message r of a to b, where b is in the set m of its receivers. Gives the place after it.
 fn put_message(out: &mut [u8], at: usize, m: u16, r: u8, a: u8, b: u8) -> usize

@@ -24,7 +24,7 @@ use Rattle.bench.specs.declared.Message.the-variants.{Estimate, Decision}
 use Rattle.bench.specs.declared.Event.the-variants.{Start as StartOf, Send as SendOf, Arrive as ArriveOf}
 use Rattle.bench.specs.declared.Event.the-variants.{Crash as CrashOf, Suspect as SuspectOf}
 use Rattle.bench.specs.State.{processAt, sentAt, transitAt, crashedAt, withProcess, withSent, withTransit, withCrashed}
-use Rattle.bench.specs.Refuse.{actor, numberOf, passes7, passes9, refuses, isCrash}
+use Rattle.bench.specs.Refuse.{actor, numberOf, passes7, refuses, isCrash}
 use Rattle.bench.specs.RefuseLaws.{Passes, passes-on, ninth-crash}
 use Rattle.bench.specs.SoundLaws.{Bounds, process-low}
 use Rattle.bench.specs.Effect.{opensRound, sends, arrives, effect}

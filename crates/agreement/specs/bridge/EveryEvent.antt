@@ -8,7 +8,7 @@ use native.Mathlib.Omega.{arith}
 use lib.Dec.{lit<}
 use Rattle.sets.specs.Set.{has}
 use Rattle.sets.specs.Laws.{empty-by}
-use Rattle.sets.specs.Truth.{bit, _||_}
+use Rattle.sets.specs.Truth.{_||_}
 use Rattle.sets.specs.TruthLaws.{Is, on, off, is, off-by, and-r, and-mk, and-off-r}
 use Rattle.sets.specs.TruthLaws.{or-mk-l, or-mk-r, same-mk, below-mk, eq-or, le-or}
 use Rattle.process.specs.Steps.{hasDecided, takesPart, arrivedOf, dueOf}
@@ -22,7 +22,7 @@ use Rattle.bench.specs.declared.Event.the-variants.{Close as CloseOf, Crash as 
 use Rattle.bench.specs.State.{processAt, transitAt, crashedAt}
 use Rattle.bench.specs.Sound.{soundOf}
 use Rattle.bench.specs.RecordLaws.{messageIn, inRange, valueFits}
-use Rattle.bench.specs.Refuse.{actor, numberOf, passes7, passes8, passes9, refuses, isCrash}
+use Rattle.bench.specs.Refuse.{actor, numberOf, passes7, passes8, refuses, isCrash}
 use Rattle.bench.specs.RefuseLaws.{passes-mk, ninth-other}
 use Rattle.bench.specs.SoundLaws.{Bounds, process-low, sound-on}
 use Rattle.bench.specs.Effect.{effect}

@@ -1,9 +1,9 @@
 -- The pigeonhole: one member for each of r levels makes r members. By the levels:
 -- the member of the top one is left out of the count.
-use mathlib.Core.Path.{_≡_, refl, sym, ap, _∙_}
+use mathlib.Core.Path.{_≡_, ap, _∙_}
 use mathlib.Core.Logic.{_≢_}
-use mathlib.Core.Bool.{Bool, true, false, not}
-use Prim.Native.Nat.{ℕ, zero, suc, _≤_, _<_}
+use mathlib.Core.Bool.{Bool, true, not}
+use Prim.Native.Nat.{ℕ, suc, _≤_, _<_}
 use native.Mathlib.Omega.{arith}
 use Rattle.sets.specs.Truth.{_&&_, same}
 use Rattle.sets.specs.TruthLaws.{and-l, and-on-r, and-off-r, same-off, same-refl}

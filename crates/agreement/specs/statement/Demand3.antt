@@ -10,12 +10,11 @@ use Rattle.sets.specs.Truth.{_&&_, same, below}
 use Rattle.global_data.specs.declared.GlobalData.{GlobalData}
 use Rattle.global_data.specs.declared.Entry.the-variants.{Absent, Value}
 use Rattle.global_data.specs.GlobalData.{entryOf, sameTo}
-use Rattle.bench.specs.declared.Shown.{Shown}
 use Rattle.bench.specs.declared.Shown.the-variants.{Marks, Refused}
 use Rattle.bench.specs.Refuse.{refusal}
 use Rattle.bench.specs.Calls.{refused, wordAt, showOf, shownIn}
 use Rattle.agreement.specs.statement.History.{Call, afterCalls, answers, history, afterHistory, ruled}
-use Rattle.agreement.specs.statement.History.{Outcome, undecided, decidedOn, outcome, isDecided}
+use Rattle.agreement.specs.statement.History.{undecided, decidedOn, outcome, isDecided}
 use Rattle.agreement.specs.statement.History.{beforeDecision, startedWith, crashedIn, crashCount, rounds}
 
 -- a record of kind 5

@@ -1,7 +1,7 @@
 -- The invariants that every other proof leans on: how the rounds, the sets and the wire of one view hang together.
 use mathlib.Core.Path.{_≡_}
 use mathlib.Core.Logic.{_≢_}
-use mathlib.Core.Bool.{Bool, true, false}
+use mathlib.Core.Bool.{true, false}
 use Prim.Native.Nat.{ℕ, suc, _≤_, _<_}
 use Rattle.sets.specs.Lists.{count}
 use Rattle.agreement.specs.view.View.{View}

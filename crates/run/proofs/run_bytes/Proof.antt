@@ -2,7 +2,7 @@
 -- The second is the run: the bench is sound, and the run from here on gives what the whole run gives
 -- (`Running`). A turn is one law of `Turns`: each event's check and effect are those of the definitions on the parts
 -- that the code reads and stores.
-use mathlib.Core.Path.{_≡_, refl, sym, ap, _∙_}
+use mathlib.Core.Path.{_≡_, refl, sym, _∙_}
 use mathlib.Core.Bool.{true}
 use mir.Syntax.{w64}
 use mir.Val.{Fits}
@@ -15,19 +15,17 @@ use borrow.Author.Needs.{needs, fits-under, scaled-fits}
 use Rattle.sets.specs.TruthLaws.{not-on, not-off}
 use Rattle.global_data.specs.GlobalData.{noData, rowsOf}
 use Rattle.global_data.proofs.GlobalData as row
-use Rattle.process.specs.declared.Process.{Process}
 use Rattle.process.specs.Steps.{noProcess, closeOf}
 use Rattle.bench.specs.declared.Event.{Event}
 use Rattle.bench.specs.declared.Event.the-variants.{Arrive}
 use Rattle.bench.specs.declared.Decoded.{Decoded}
 use Rattle.bench.specs.declared.Decoded.the-variants.{Got}
-use Rattle.bench.specs.State.{processAt, transitAt, withProcess, withTransit}
+use Rattle.bench.specs.State.{processAt, transitAt, withProcess}
 use Rattle.bench.specs.Sound.{soundData, soundOf}
 use Rattle.bench.specs.EveryInLaws.{Tested, tested-none, tested-more, tested-all}
 use Rattle.bench.specs.SoundLaws.{soundParts, parts-small, sound-off, sound-rows, sound-on}
 use Rattle.bench.specs.RecordLaws.{messageIn}
 use Rattle.bench.specs.Refuse.{refuses}
-use Rattle.bench.specs.Effect.{sends, arrives, effect}
 use Rattle.bench.specs.Calls.{endedOf}
 use Rattle.bench.specs.RunLaws.{run-damaged}
 use Rattle.run.specs.Turns.{Running, running-new, Turn, ends-empty, ends-spent, ends-short, ends-unread}

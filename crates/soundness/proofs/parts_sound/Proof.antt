@@ -4,7 +4,7 @@ use mathlib.Core.Bool.{true}
 use Prim.Native.Nat.{_≤_}
 use native.Mathlib.Omega.{arith}
 use borrow.Author.Needs.{needs}
-use Rattle.sets.specs.TruthLaws.{not-on, not-off, and-l, and-r, and-on-l, and-off-l, below-on}
+use Rattle.sets.specs.TruthLaws.{not-on, not-off, and-on-l, and-off-l}
 use Rattle.bench.specs.Sound.{opens}
 use Rattle.bench.specs.SoundLaws.{soundParts, open-few}
 use Rattle.sets.specs.Tests.{both}

@@ -4,7 +4,6 @@ use Prim.Native.Nat.{_≤_, _-_}
 use lib.ListN.{length}
 use borrow.Author.Needs.{needs}
 use Rattle.global_data.specs.GlobalData.{noData}
-use Rattle.sets.specs.Set.{within}
 use Rattle.bench.specs.Sound.{soundData}
 use Rattle.bench.specs.EveryInLaws.{Tested, tested-none, tested-more, tested-all}
 use Rattle.soundness.proofs.rows_within.Statement.{statement}

@@ -1,6 +1,5 @@
 -- `put_all` stores the messages of each round. The loop's invariant: what is stored is
 -- the bytes of the rounds below r.
-use mathlib.Core.Path.{_≡_}
 use Prim.Native.Nat.{_+_, _≤_, _-_}
 use native.Mathlib.Nat.{le-antisymm}
 use native.Mathlib.Omega.{arith}

@@ -1,6 +1,5 @@
 -- `put_set` stores the message for each receiver. The loop's invariant: what is stored is the
 -- bytes for the receivers below b.
-use mathlib.Core.Path.{_≡_}
 use Prim.Native.Nat.{_≤_, _-_}
 use native.Mathlib.Nat.{le-antisymm}
 use native.Mathlib.Omega.{arith}

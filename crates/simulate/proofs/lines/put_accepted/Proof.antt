@@ -1,6 +1,5 @@
 -- `put_accepted` stores a line with the answer 0 for each accepted record.
 -- The loop's invariant: the lines of the first j.
-use mathlib.Core.Path.{_≡_}
 use Prim.Native.Nat.{_+_, _-_, _*_, _≤_}
 use native.Mathlib.Nat.{le-antisymm}
 use borrow.Author.Needs.{needs}

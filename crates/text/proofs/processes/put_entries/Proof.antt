@@ -1,5 +1,4 @@
 -- `put_entries` stores each entry below n. The loop's invariant: the texts of the first k.
-use mathlib.Core.Path.{_≡_}
 use mathlib.Core.List.{List}
 use Prim.Native.Nat.{ℕ, _-_, _*_, _≤_}
 use native.Mathlib.Nat.{le-antisymm}

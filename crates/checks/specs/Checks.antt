@@ -8,7 +8,6 @@ use Rattle.sets.specs.Truth.{_&&_, same, below, choose, check}
 use Rattle.sets.specs.TruthLaws.{and-l, below-on}
 use Rattle.process.specs.declared.Process.{Process}
 use Rattle.process.specs.Steps.{hasDecided, takesPart, dueOf}
-use Rattle.bench.specs.Refuse.{passes7, passes8, passes9}
 
 -- the number of the first check that fails, or 0
 unfoldable pub firstFailed : Bool → Bool → Bool → Bool → ℕ

@@ -25,7 +25,7 @@ use Rattle.bench.specs.Refuse.{actor, isCrash, passes7, passes8, passes9
 use Rattle.bench.specs.Effect.{effect, effectDecoded, effectOf}
 use Rattle.bench.specs.Calls.{afterRecord}
 
--- ---- an event is let through when its actor runs, it is possible, ready and allowed
+-- ---- an event is let through when its actor runs and it passes the checks 7, 8 and 9
 pub record Passes (e : Event) (s : Bench) : Type 0 where
   pub running : crashedAt s (actor e) ≡ false
   pub pass7 : passes7 e s ≡ true

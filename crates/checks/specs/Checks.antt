@@ -32,7 +32,7 @@ crashCheck crashed a t = firstFailed (has crashed a) true true (below (sizeOf cr
 unfoldable pub suspectCheck : ℕ → ℕ → ℕ → ℕ → ℕ
 suspectCheck crashed a m b = firstFailed (has crashed a) (has crashed b && not (has m b)) true true
 
--- what is impossible is so whatever is checked after it
+-- what fails check 7 does so whatever is checked after it
 pub first-impossible : (crashed passes8 passes9 : Bool)
     → firstFailed crashed false passes8 passes9 ≡ firstFailed crashed false false true
 unfolding firstFailed check choose

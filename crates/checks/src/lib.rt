@@ -5,16 +5,16 @@ ghost use Prim.Native.Nat.{_<_, _≤_};
 ghost use Rattle.checks.specs.Checks.{firstFailed, startCheck, messageCheck};
 ghost use Rattle.checks.specs.Checks.{closeCheck, crashCheck, suspectCheck};
 
-fn first(crashed: bool, possible: bool, ready: bool, allowed: bool) -> u8
-    ensures { λ r. ⌜ r ≡ firstFailed crashed possible ready allowed ⌝ }
+fn first(crashed: bool, passes7: bool, passes8: bool, passes9: bool) -> u8
+    ensures { λ r. ⌜ r ≡ firstFailed crashed passes7 passes8 passes9 ⌝ }
 {
     if crashed {
         6
-    } else if !possible {
+    } else if !passes7 {
         7
-    } else if !ready {
+    } else if !passes8 {
         8
-    } else if !allowed {
+    } else if !passes9 {
         9
     } else {
         0

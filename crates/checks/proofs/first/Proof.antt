@@ -11,32 +11,32 @@ returns c = rw (c .if1 .taken)
 
 returns-2 : tie.Need-returns-2
 unfolding firstFailed check choose
-returns-2 c = rw (c .before .if1 .left, not-on (c .before .before .args .possible) (c .if2 .taken))
+returns-2 c = rw (c .before .if1 .left, not-on (c .before .before .args .passes7) (c .if2 .taken))
 
 returns-3 : tie.Need-returns-3
 unfolding firstFailed check choose
 returns-3 c = rw (
   c .before .before .if1 .left,
-  not-off (c .before .before .before .args .possible) (c .before .if2 .left),
-  not-on (c .before .before .before .args .ready) (c .if3 .taken),
+  not-off (c .before .before .before .args .passes7) (c .before .if2 .left),
+  not-on (c .before .before .before .args .passes8) (c .if3 .taken),
 )
 
 returns-4 : tie.Need-returns-4
 unfolding firstFailed check choose
 returns-4 c = rw (
   c .before .before .before .if1 .left,
-  not-off (c .before .before .before .before .args .possible) (c .before .before .if2 .left),
-  not-off (c .before .before .before .before .args .ready) (c .before .if3 .left),
-  not-on (c .before .before .before .before .args .allowed) (c .if4 .taken),
+  not-off (c .before .before .before .before .args .passes7) (c .before .before .if2 .left),
+  not-off (c .before .before .before .before .args .passes8) (c .before .if3 .left),
+  not-on (c .before .before .before .before .args .passes9) (c .if4 .taken),
 )
 
 returns-5 : tie.Need-returns-5
 unfolding firstFailed check choose
 returns-5 c = rw (
   c .before .before .before .if1 .left,
-  not-off (c .before .before .before .before .args .possible) (c .before .before .if2 .left),
-  not-off (c .before .before .before .before .args .ready) (c .before .if3 .left),
-  not-off (c .before .before .before .before .args .allowed) (c .if4 .left),
+  not-off (c .before .before .before .before .args .passes7) (c .before .before .if2 .left),
+  not-off (c .before .before .before .before .args .passes8) (c .before .if3 .left),
+  not-off (c .before .before .before .before .args .passes9) (c .if4 .left),
 )
 
 pub first-spec : {M : Type 1} → statement M

@@ -2,7 +2,7 @@
 -- its end: the checker computes it.
 use mathlib.Core.Path.{_≡_, refl}
 use mathlib.Core.List.{List, [], _∷_}
-use mathlib.Core.Bool.{Bool, true, false}
+use mathlib.Core.Bool.{Bool, true, false, not}
 use Prim.Native.Nat.{ℕ, zero, suc}
 use Rattle.sets.specs.Lists.{each, every}
 use Rattle.sets.specs.Set.{has, insertOf, removeOf, unionOf, intersectionOf, differenceOf, allOf}
@@ -12,8 +12,11 @@ use Rattle.global_data.specs.declared.Entry.{Entry}
 use Rattle.global_data.specs.declared.Entry.the-variants.{Absent, Value}
 use Rattle.global_data.specs.GlobalData.{entryOf, sameEntry, rowsOf, filledWord, fillOf, fillFrom, sameTo, allSame}
 use Rattle.process.specs.declared.Process.{Process}
+use Rattle.process.specs.declared.Closing.{Closing}
+use Rattle.process.specs.declared.Closing.the-variants.{NextRound, Agreed, LastRound}
 use Rattle.process.specs.Steps.{hasDecided, openRoundOf, arrivedOf, nextOf, peersOf, filledOf}
-use Rattle.process.specs.Steps.{agreedOf, decidesOf, owedOf, decideOf, advanceOf, closeOf}
+use Rattle.process.specs.Steps.{agreedOf, closingOf, closingNumber, opensNext, decidesOf, owedOf}
+use Rattle.process.specs.Steps.{decideOf, advanceOf, closeOf}
 
 -- a process before a close: sets are bits, and `arrived` is whose estimates of this round have arrived
 pub record Start : Type 0 where
@@ -24,9 +27,9 @@ pub record Start : Type 0 where
   pub arrived : ℕ
   pub estimate : List Entry
 
--- and after it
+-- and after it, with how the round ended
 pub record End : Type 0 where
-  pub decided : Bool
+  pub closing : Closing
   pub round : ℕ
   pub previous : ℕ
   pub current : ℕ
@@ -37,8 +40,8 @@ pub record End : Type 0 where
 abbrev from : ℕ → ℕ → ℕ → ℕ → ℕ → List Entry → Start
 from r p c s m l = record { round = r; previous = p; current = c; suspected = s; arrived = m; estimate = l }
 
-abbrev to : Bool → ℕ → ℕ → ℕ → ℕ → List Entry → End
-to d r p c o l = record { decided = d; round = r; previous = p; current = c; outbox = o; estimate = l }
+abbrev to : Closing → ℕ → ℕ → ℕ → ℕ → List Entry → End
+to e r p c o l = record { closing = e; round = r; previous = p; current = c; outbox = o; estimate = l }
 
 -- process a, from 0, closes its round; `rows` is what each process sent in it
 pub record Case : Type 0 where
@@ -95,28 +98,31 @@ shows k g (e ∷ l) = sameEntry (entryOf g k) e && shows (suc k) g l
 
 pub passes : Case → Bool
 passes c =
-    let p = closeOf (c .n) (c .t) (c .a) (rowsOf (rowsFrom (c .rows))) (processOf (c .start)) in
+    let rows = rowsOf (rowsFrom (c .rows)) in
+    let p = closeOf (c .n) (c .t) (c .a) rows (processOf (c .start)) in
     let e = c .end in
-    sameBool (hasDecided p) (e .decided)
+    same (closingNumber (closingOf (c .n) (c .t) (c .a) rows (processOf (c .start)))) (closingNumber (e .closing))
+    && (sameBool (hasDecided p) (not (opensNext (e .closing)))
     && (same (p .round) (e .round)
     && (same (p .previous) (e .previous)
-    && (same (p .current) (e .current) && (same (p .outbox) (e .outbox) && shows 0 (p .estimate) (e .estimate)))))
+    && (same (p .current) (e .current) && (same (p .outbox) (e .outbox) && shows 0 (p .estimate) (e .estimate))))))
 
 pub allPass : List Case → Bool
 allPass [] = true
 allPass (c ∷ l) = passes c && allPass l
 
 -- ---- the table
--- all sets and all estimates agree: it decides early, and owes the decision to the other
-agreement : Case
-agreement =
+-- all sets and all estimates agree: it decides, and owes the decision to the other. Early it is by the agreement;
+-- with t 0 the round is the last one as well, and that is the answer
+agreement : ℕ → Closing → Case
+agreement t c =
     record {
       n = 2;
-      t = 1;
+      t = t;
       a = 0;
       start = from 1 3 3 0 2 (Value 5 ∷ Value 6 ∷ []);
       rows = [] ∷ (Value 5 ∷ Value 6 ∷ []) ∷ [];
-      end = to true 1 3 3 2 (Value 5 ∷ Value 6 ∷ []);
+      end = to c 1 3 3 2 (Value 5 ∷ Value 6 ∷ []);
     }
 
 -- the sets agree and the arrived row is the new estimate, but its own old one was another: no decision
@@ -128,7 +134,7 @@ ownOld =
       a = 0;
       start = from 1 3 3 0 2 (Value 5 ∷ Absent ∷ []);
       rows = [] ∷ (Value 5 ∷ Value 6 ∷ []) ∷ [];
-      end = to false 2 3 3 2 (Value 5 ∷ Value 6 ∷ []);
+      end = to NextRound 2 3 3 2 (Value 5 ∷ Value 6 ∷ []);
     }
 
 -- an estimate arrived and its sender is suspected since: it is in the next set, and fills
@@ -140,7 +146,7 @@ suspectedSender =
       a = 0;
       start = from 1 3 3 2 2 (Value 5 ∷ Absent ∷ []);
       rows = [] ∷ (Absent ∷ Value 6 ∷ []) ∷ [];
-      end = to false 2 3 3 2 (Value 5 ∷ Value 6 ∷ []);
+      end = to NextRound 2 3 3 2 (Value 5 ∷ Value 6 ∷ []);
     }
 
 -- equal estimates, with previous and next differing: no decision
@@ -152,7 +158,7 @@ setsDiffer =
       a = 0;
       start = from 2 7 3 4 2 (Value 5 ∷ Value 6 ∷ Absent ∷ []);
       rows = [] ∷ (Value 5 ∷ Value 6 ∷ Absent ∷ []) ∷ [] ∷ [];
-      end = to false 3 3 3 2 (Value 5 ∷ Value 6 ∷ Absent ∷ []);
+      end = to NextRound 3 3 3 2 (Value 5 ∷ Value 6 ∷ Absent ∷ []);
     }
 
 -- the value 0 in one row and absent in another: these differ, so no decision, and the entry is 0 and present
@@ -164,7 +170,7 @@ zeroOrAbsent own =
       a = 0;
       start = from 1 7 7 0 6 own;
       rows = [] ∷ (Value 5 ∷ Value 0 ∷ Value 7 ∷ []) ∷ (Value 5 ∷ Absent ∷ Value 7 ∷ []) ∷ [];
-      end = to false 2 7 7 6 (Value 5 ∷ Value 0 ∷ Value 7 ∷ []);
+      end = to NextRound 2 7 7 6 (Value 5 ∷ Value 0 ∷ Value 7 ∷ []);
     }
 
 -- round t + 1 decides, though sets and estimates differ; the decision is not owed to a suspected process
@@ -176,7 +182,7 @@ lastRound =
       a = 0;
       start = from 2 7 3 4 2 (Value 5 ∷ Absent ∷ Absent ∷ []);
       rows = [] ∷ (Absent ∷ Value 6 ∷ Absent ∷ []) ∷ [] ∷ [];
-      end = to true 2 7 3 2 (Value 5 ∷ Value 6 ∷ Absent ∷ []);
+      end = to LastRound 2 7 3 2 (Value 5 ∷ Value 6 ∷ Absent ∷ []);
     }
 
 -- two rows show an entry that it lacks: the lowest-numbered one whose estimate arrived fills it
@@ -188,13 +194,13 @@ lowest arrived next v =
       a = 2;
       start = from 1 7 7 0 arrived (Absent ∷ Absent ∷ Value 7 ∷ []);
       rows = (Value 8 ∷ Absent ∷ Absent ∷ []) ∷ (Value 9 ∷ Absent ∷ Absent ∷ []) ∷ [] ∷ [];
-      end = to false 2 7 (insertOf next 2) next (Value v ∷ Absent ∷ Value 7 ∷ []);
+      end = to NextRound 2 7 (insertOf next 2) next (Value v ∷ Absent ∷ Value 7 ∷ []);
     }
 
 pub table : List Case
 table =
-    agreement ∷ ownOld ∷ suspectedSender ∷ setsDiffer ∷ zeroOrAbsent (Value 5 ∷ Value 0 ∷ Value 7 ∷ [])
-    ∷ zeroOrAbsent (Value 5 ∷ Absent ∷ Value 7 ∷ []) ∷ lastRound ∷ lowest 3 3 8 ∷ lowest 2 2 9 ∷ []
+    agreement 1 Agreed ∷ agreement 0 LastRound ∷ ownOld ∷ suspectedSender ∷ setsDiffer
+    ∷ zeroOrAbsent (Value 5 ∷ Value 0 ∷ Value 7 ∷ []) ∷ zeroOrAbsent (Value 5 ∷ Absent ∷ Value 7 ∷ []) ∷ lastRound ∷ lowest 3 3 8 ∷ lowest 2 2 9 ∷ []
 
 -- every case passes: the checker computes it from the definitions
 pub cases : allPass table ≡ true
@@ -202,5 +208,6 @@ unfolding dataFrom rowsFrom word pred processOf sameBool shows passes allPass ag
     setsDiffer zeroOrAbsent lastRound lowest table
     has insertOf removeOf unionOf intersectionOf differenceOf allOf _&&_ _||_ same choose every each
     entryOf sameEntry filledWord fillOf fillFrom sameTo allSame
-    hasDecided openRoundOf arrivedOf nextOf peersOf filledOf agreedOf decidesOf owedOf decideOf advanceOf closeOf
+    hasDecided openRoundOf arrivedOf nextOf peersOf filledOf agreedOf closingOf closingNumber opensNext decidesOf owedOf
+    decideOf advanceOf closeOf
 cases = refl

@@ -23,10 +23,11 @@ use Rattle.global_data.specs.declared.GlobalData.{GlobalData}
 use Rattle.global_data.specs.GlobalData.{nothingOf, oneOf, sameTo, allSame}
 use Rattle.global_data.specs.Laws.{fillFrom-lt}
 use Rattle.process.specs.declared.Process.{Process}
+use Rattle.process.specs.declared.Closing.the-variants.{NextRound, Agreed, LastRound}
 use Rattle.process.specs.Fields.{withReceived}
 use Rattle.process.specs.Steps.{idleOf, hasDecided, takesPart, openRoundOf, startOf, keeps, receiveOf}
-use Rattle.process.specs.Steps.{arrivedOf, dueOf, nextOf, peersOf, filledOf, agreedOf, decidesOf}
-use Rattle.process.specs.Steps.{owedOf, decideOf, advanceOf, closeOf, adoptOf, sendOf, suspectOf}
+use Rattle.process.specs.Steps.{arrivedOf, dueOf, nextOf, peersOf, filledOf, agreedOf, closingOf}
+use Rattle.process.specs.Steps.{closingNumber, opensNext, decidesOf, owedOf, decideOf, advanceOf, closeOf, adoptOf, sendOf, suspectOf}
 
 -- ---- a step by cases
 -- what holds of both holds of the chosen one
@@ -179,20 +180,30 @@ module _ (a : ℕ) (p : Process) where
 
 -- ---- step 5: when a close decides
 module _ (n t a : ℕ) (rows : ℕ → GlobalData) (p : Process) where
+  -- by one ground or the other
+  pub decides-is : decidesOf n t a rows p ≡ (same (p .round) (t + 1) || agreedOf n a rows p)
+  unfolding decidesOf closingOf closingNumber opensNext same choose _||_
+  decides-is = go (same (p .round) (t + 1)) (agreedOf n a rows p)
+    where
+      go : (last agreed : Bool)
+          → not (opensNext (choose last LastRound (choose agreed Agreed NextRound))) ≡ (last || agreed)
+      go true agreed = refl
+      go false true = refl
+      go false false = refl
+
   pub last-decides : p .round ≡ t + 1 → decidesOf n t a rows p ≡ true
-  unfolding decidesOf
-  last-decides e = or-mk-l _ _ (same-mk _ _ e)
+  last-decides e = decides-is ∙ or-mk-l _ _ (same-mk _ _ e)
 
   pub decides-by : p .previous ≡ nextOf a p → sameTo n (filledOf a rows p) (p .estimate) ≡ true
       → allSame 16 n (peersOf a p) rows (filledOf a rows p) ≡ true → decidesOf n t a rows p ≡ true
-  unfolding decidesOf agreedOf
-  decides-by e f g = or-mk-r _ _ (and-mk _ _ (same-mk _ _ e) (and-mk _ _ f g))
+  unfolding agreedOf
+  decides-by e f g =
+      decides-is ∙ or-mk-r _ _ (and-mk _ _ (same-mk _ _ e) (and-mk _ _ f g))
 
   -- in an earlier round it decides by the test alone
   module _ (e : decidesOf n t a rows p ≡ true) (early : p .round ≢ t + 1) where
     decides-agreed : agreedOf n a rows p ≡ true
-    unfolding decidesOf
-    decides-agreed = sym (or-off-l _ _ (same-off _ _ early)) ∙ e
+    decides-agreed = sym (decides-is ∙ or-off-l _ _ (same-off _ _ early)) ∙ e
 
     pub decides-set : p .previous ≡ nextOf a p
     unfolding agreedOf
@@ -208,15 +219,17 @@ module _ (n t a : ℕ) (rows : ℕ → GlobalData) (p : Process) where
 
   -- where it does not decide, the round is not the last, and a part of the test fails
   module _ (e : decidesOf n t a rows p ≡ false) where
+    neither : (same (p .round) (t + 1) || agreedOf n a rows p) ≡ false
+    neither = sym (decides-is) ∙ e
+
     pub open-round : p .round ≢ t + 1
-    unfolding decidesOf
-    open-round = same-not _ _ (or-none-l _ _ e)
+    open-round = same-not _ _ (or-none-l _ _ neither)
 
     pub open-test : (p .previous ≢ nextOf a p)
         ⊎ ((sameTo n (filledOf a rows p) (p .estimate) ≡ false)
         ⊎ (allSame 16 n (peersOf a p) rows (filledOf a rows p) ≡ false))
-    unfolding decidesOf agreedOf
-    open-test = ⊎-elim (λ f. inl (same-not _ _ f)) (λ f. inr (and-cases _ _ f)) (and-cases _ _ (or-none-r _ _ e))
+    unfolding agreedOf
+    open-test = ⊎-elim (λ f. inl (same-not _ _ f)) (λ f. inr (and-cases _ _ f)) (and-cases _ _ (or-none-r _ _ neither))
 
 -- ---- what each step keeps: every set and present mark is within the n processes, and the round is at most t + 1
 pub record Within (n t : ℕ) (p : Process) : Type 0 where

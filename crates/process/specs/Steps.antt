@@ -9,6 +9,8 @@ use Rattle.sets.specs.Truth.{_&&_, _||_, same, below, choose}
 use Rattle.global_data.specs.declared.GlobalData.{GlobalData}
 use Rattle.global_data.specs.GlobalData.{noData, nothingOf, oneOf, fillFrom, sameTo, allSame}
 use Rattle.process.specs.declared.Process.{Process}
+use Rattle.process.specs.declared.Closing.{Closing}
+use Rattle.process.specs.declared.Closing.the-variants.{None, NextRound, Agreed, LastRound}
 use Rattle.process.specs.Fields.{whole, withRound, withDecided, withPrevious, withCurrent}
 use Rattle.process.specs.Fields.{withSuspected, withOutbox, withEstimate, withReceived}
 
@@ -82,9 +84,24 @@ agreedOf n a rows p =
     same (p .previous) (nextOf a p)
     && (sameTo n (filledOf a rows p) (p .estimate) && allSame 16 n (peersOf a p) rows (filledOf a rows p))
 
--- it decides if the round is t + 1 or the test holds
+-- how the round ends (request C-11): where it is t + 1 by the last round, whatever the test says; else agreed if
+-- the test holds; else the next round opens
+unfoldable pub closingOf : ℕ → ℕ → ℕ → (ℕ → GlobalData) → Process → Closing
+closingOf n t a rows p = choose (same (p .round) (t + 1)) LastRound (choose (agreedOf n a rows p) Agreed NextRound)
+
+-- its number
+unfoldable pub closingNumber : Closing → ℕ
+closingNumber None = 0
+closingNumber NextRound = 1
+closingNumber Agreed = 2
+closingNumber LastRound = 3
+
+unfoldable pub opensNext : Closing → Bool
+opensNext c = same (closingNumber c) 1
+
+-- it decides where the next round does not open
 unfoldable pub decidesOf : ℕ → ℕ → ℕ → (ℕ → GlobalData) → Process → Bool
-decidesOf n t a rows p = same (p .round) (t + 1) || agreedOf n a rows p
+decidesOf n t a rows p = not (opensNext (closingOf n t a rows p))
 
 -- ---- step 5, otherwise: previous becomes current, current becomes next, and the next round
 -- opens with g, the filled estimate

@@ -3,8 +3,8 @@ ghost use mathlib.Core.Path.{_≡_};
 ghost use Prim.Native.Nat.{_<_, _≤_};
 ghost use Rattle.global_data.specs.GlobalData.{rowsOf};
 ghost use Rattle.process.specs.Steps.{idleOf, hasDecided, takesPart, openRoundOf, startOf, keeps, receiveOf};
-ghost use Rattle.process.specs.Steps.{arrivedOf, dueOf, nextOf, peersOf, filledOf, agreedOf, decidesOf, owedOf};
-ghost use Rattle.process.specs.Steps.{advanceOf, decideOf, closeOf, adoptOf, messageOf, sendOf, suspectOf};
+ghost use Rattle.process.specs.Steps.{arrivedOf, dueOf, nextOf, peersOf, filledOf, agreedOf, closingOf, opensNext};
+ghost use Rattle.process.specs.Steps.{owedOf, advanceOf, decideOf, closeOf, adoptOf, messageOf, sendOf, suspectOf};
 ghost use Rattle.process.specs.Laws.{wordsWith};
 ghost use Rattle.sets.specs.Truth.{choose};
 ghost use Rattle.sets.specs.Set.{insertOf};
@@ -30,6 +30,37 @@ pub struct Process {
     pub estimate: GlobalData,
     // for each round from 1, whose estimates have arrived and are kept
     pub received: [u16; 16],
+}
+
+// How a round ended (request C-11).
+pub enum Closing {
+    // there was no close
+    None,
+    // the next round is open
+    NextRound,
+    // decided: the sets and the estimates agree
+    Agreed,
+    // decided: it was round t + 1
+    LastRound,
+}
+
+// What a close gives.
+pub struct Closed {
+    pub process: Process,
+    pub closing: Closing,
+}
+
+impl Closing {
+    fn opens_next(self) -> bool
+        ensures { λ r. ⌜ r ≡ opensNext self ⌝ }
+    {
+        match self {
+            Closing::None => false,
+            Closing::NextRound => true,
+            Closing::Agreed => false,
+            Closing::LastRound => false,
+        }
+    }
 }
 
 // A set, with y in it where `put` says so.
@@ -217,18 +248,21 @@ impl Process {
         }
     }
 
-    // Whether the close decides, where g is the filled estimate.
-    fn decides(self, n: usize, t: usize, a: usize, rows: [GlobalData; 16], g: GlobalData) -> bool
+    // How the round ends, where g is the filled estimate. The last round is asked for first.
+    fn ending(self, n: usize, t: usize, a: usize, rows: [GlobalData; 16], g: GlobalData) -> Closing
         requires { ⌜ (n ≤ 16) × (t < 16) ⌝ }
         requires { ⌜ a < 16 ⌝ }
         requires { ⌜ (1 ≤ self .round) × (self .round ≤ 16) ⌝ }
         requires { ⌜ g ≡ filledOf a (rowsOf rows) self ⌝ }
-        ensures { λ r. ⌜ r ≡ decidesOf n t a (rowsOf rows) self ⌝ }
+        ensures { λ r. ⌜ r ≡ closingOf n t a (rowsOf rows) self ⌝ }
     {
         if self.round as usize == t + 1 {
-            true
+            return Closing::LastRound;
+        }
+        if self.agreed(n, a, rows, g) {
+            Closing::Agreed
         } else {
-            self.agreed(n, a, rows, g)
+            Closing::NextRound
         }
     }
 
@@ -246,18 +280,21 @@ impl Process {
     }
 
     // Steps 4 and 5: it closes its round. The filled estimate is worked out once.
-    pub fn close(self, n: usize, t: usize, a: usize, rows: [GlobalData; 16]) -> Process
+    pub fn close(self, n: usize, t: usize, a: usize, rows: [GlobalData; 16]) -> Closed
         requires { ⌜ (n ≤ 16) × (t < 16) ⌝ }
         requires { ⌜ a < 16 ⌝ }
         requires { ⌜ (1 ≤ self .round) × (self .round ≤ 16) ⌝ }
-        ensures { λ r. ⌜ r ≡ closeOf n t a (rowsOf rows) self ⌝ }
+        ensures { λ r. ⌜ (r .process ≡ closeOf n t a (rowsOf rows) self)
+            × (r .closing ≡ closingOf n t a (rowsOf rows) self) ⌝ }
     {
         let g = self.filled(a, rows);
-        if self.decides(n, t, a, rows, g) {
-            self.decide(g, self.owed(n, a))
-        } else {
+        let closing = self.ending(n, t, a, rows, g);
+        let process = if closing.opens_next() {
             self.advance(a, g)
-        }
+        } else {
+            self.decide(g, self.owed(n, a))
+        };
+        Closed { process, closing }
     }
 
     // Whom it owes a decision: all but itself and those it suspects.

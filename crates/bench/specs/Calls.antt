@@ -8,6 +8,8 @@ use Rattle.sets.specs.Lists.{each}
 use Rattle.sets.specs.Set.{has}
 use Rattle.sets.specs.Truth.{_&&_, same, below, choose, oneTo, check}
 use Rattle.global_data.specs.declared.GlobalData.{GlobalData}
+use Rattle.process.specs.declared.Closing.{Closing}
+use Rattle.process.specs.declared.Closing.the-variants.{None}
 use Rattle.process.specs.Steps.{hasDecided}
 use Rattle.bench.specs.declared.Bench.{Bench}
 use Rattle.bench.specs.declared.Refusal.{Refusal}
@@ -28,6 +30,7 @@ use Rattle.bench.specs.Sound.{opens, soundOf}
 use Rattle.bench.specs.Record.{decodeOf}
 use Rattle.bench.specs.Refuse.{isCrash, refusal}
 use Rattle.bench.specs.Effect.{effectOf}
+use Rattle.bench.specs.Closings.{closingIn, lastOf}
 
 -- a refusal with its number
 abbrev pub refused : ℕ → Refusal
@@ -48,7 +51,8 @@ unfoldable pub afterRecord : Bench → List ℕ → Bench
 afterRecord s bytes = choose (same (refusal s bytes) 0) (effectOf s bytes) s
 
 unfoldable pub stepOf : Bench → List ℕ → Stepped
-stepOf s bytes = record { answer = answerOf (refusal s bytes); bench = afterRecord s bytes }
+stepOf s bytes =
+    record { answer = answerOf (refusal s bytes); closing = closingIn s bytes; bench = afterRecord s bytes }
 
 -- ---- the tally: accepted, refused and crashes, each of 32 bits and staying at its largest value
 unfoldable pub more : Bool → ℕ → ℕ
@@ -71,22 +75,25 @@ unfoldable pub tallyOf : Bench → List ℕ → Counters → Counters
 tallyOf s bytes c = tallied (same (refusal s bytes) 0) (crashIn (decodeOf (s .n) (s .t) bytes)) c
 
 -- ---- run: until the schedule is empty, the budget spent or a record refused, tested in that order
-unfoldable pub endedOf : Bench → ℕ → Cause → ℕ → Ended
-endedOf s accepted cause taken = record { bench = s; accepted = accepted; cause = cause; taken = taken }
+unfoldable pub endedOf : Bench → ℕ → Cause → Closing → ℕ → Ended
+endedOf s accepted cause closing taken =
+    record { bench = s; accepted = accepted; cause = cause; closing = closing; taken = taken }
 
--- with a budget, the bytes not yet taken, and what was accepted and taken so far.
+-- with a budget, the bytes not yet taken, what was accepted and taken so far, and the last closing so far.
 -- A last part shorter than 8 bytes is a record of that length.
-unfoldable pub runFrom : ℕ → List ℕ → Bench → ℕ → ℕ → Ended
-runFrom zero l s accepted taken = endedOf s accepted (choose (same (length l) 0) Empty Spent) taken
-runFrom (suc budget) l s accepted taken =
+unfoldable pub runFrom : ℕ → List ℕ → Bench → ℕ → Closing → ℕ → Ended
+runFrom zero l s accepted closing taken =
+    endedOf s accepted (choose (same (length l) 0) Empty Spent) closing taken
+runFrom (suc budget) l s accepted closing taken =
     let r = refusal s (take 8 l) in
-    choose (same (length l) 0) (endedOf s accepted Empty taken)
-    (choose (same r 0) (runFrom budget (drop 8 l) (effectOf s (take 8 l)) (accepted + 1) (taken + 8))
-    (endedOf s accepted (RefusedRun (refused r)) taken))
+    let c = lastOf closing (closingIn s (take 8 l)) in
+    choose (same (length l) 0) (endedOf s accepted Empty closing taken)
+    (choose (same r 0) (runFrom budget (drop 8 l) (effectOf s (take 8 l)) (accepted + 1) c (taken + 8))
+    (endedOf s accepted (RefusedRun (refused r)) closing taken))
 
 -- a damaged bench is refused first, nothing stepped and the whole schedule given back
 unfoldable pub runOf : ℕ → List ℕ → Bench → Ended
-runOf budget l s = choose (soundOf s) (runFrom budget l s 0 0) (endedOf s 0 (RefusedRun (refused 2)) 0)
+runOf budget l s = choose (soundOf s) (runFrom budget l s 0 None 0) (endedOf s 0 (RefusedRun (refused 2)) None 0)
 
 -- ---- global data of a process (document 01: sheet of a terminal), written to a lent slice:
 -- absent as 0, words past n untouched

@@ -1,5 +1,5 @@
 -- The starred cases 1 to 8 of document 01, as one table, and one theorem that the definitions give each
--- of them its answers and its end.
+-- of them its answers, how its rounds ended (request C-11) and its end.
 use mathlib.Core.Path.{_≡_, refl}
 use mathlib.Core.List.{List, [], _∷_}
 use mathlib.Core.Bool.{Bool, true, false}
@@ -13,9 +13,12 @@ use Rattle.global_data.specs.declared.Entry.the-variants.{Absent, Value}
 use Rattle.global_data.specs.GlobalData.{entryOf, sameEntry, nothingOf, oneOf}
 use Rattle.global_data.specs.GlobalData.{filledWord, fillOf, fillFrom, sameTo, allSame}
 use Rattle.process.specs.Steps.{hasDecided, idleOf, takesPart, openRoundOf, startOf, keeps, receiveOf}
-use Rattle.process.specs.Steps.{arrivedOf, dueOf, nextOf, peersOf, filledOf, agreedOf, decidesOf, owedOf}
+use Rattle.process.specs.Steps.{arrivedOf, dueOf, nextOf, peersOf, filledOf, agreedOf, closingOf}
+use Rattle.process.specs.Steps.{closingNumber, opensNext, decidesOf, owedOf}
 use Rattle.process.specs.Steps.{decideOf, advanceOf, closeOf, adoptOf, messageOf, sendOf, suspectOf}
 use Rattle.process.specs.declared.Process.{Process}
+use Rattle.process.specs.declared.Closing.{Closing}
+use Rattle.process.specs.declared.Closing.the-variants.{NextRound, Agreed, LastRound}
 use Rattle.bench.specs.declared.Bench.{Bench}
 use Rattle.bench.specs.State.{processAt, sentAt, transitAt, crashedAt, withProcess}
 use Rattle.bench.specs.State.{withSent, withTransit, withCrashed, openedOf}
@@ -25,6 +28,7 @@ use Rattle.bench.specs.Record.{fieldValue, fields, messageFrom, eventOf,
 use Rattle.bench.specs.Refuse.{numberOf, actor, isCrash, passes7, passes8}
 use Rattle.bench.specs.Refuse.{passes9, refuses, refusesDecoded, refusal}
 use Rattle.bench.specs.Effect.{opensRound, rowsAt, sends, arrives, closesAs, effect, effectDecoded, effectOf}
+use Rattle.bench.specs.Closings.{closingAt, closingDecoded, closingIn, isNone}
 use Rattle.bench.specs.Calls.{afterRecord}
 
 -- a record's bytes: kind, a, b, r, and a value below 256
@@ -63,20 +67,36 @@ pub record Line : Type 0 where
 abbrev line : ℕ → ℕ → Bool → Bool → ℕ → List Entry → Line
 line a r c d m l = record { process = a; round = r; crashed = c; decided = d; current = m; entries = l }
 
+-- how a round ended, at the record of that number, from 1
+pub record Closes : Type 0 where
+  pub record-number : ℕ
+  pub closing : Closing
+
+abbrev at : ℕ → Closing → Closes
+at k c = record { record-number = k; closing = c }
+
 -- a schedule on a bench of n and t: the refusal at opening or 0, the records, the answer to each,
--- and some processes at the end
+-- how each round ended that one of them closed, and some processes at the end
 pub record Case : Type 0 where
   pub n : ℕ
   pub t : ℕ
   pub opening : ℕ
   pub records : List (List ℕ)
   pub answers : List ℕ
+  pub closings : List Closes
   pub lines : List Line
 
 -- the answers, and the bench at the end
 answersOf : Bench → List (List ℕ) → List ℕ
 answersOf s [] = []
 answersOf s (r ∷ rs) = refusal s r ∷ answersOf (afterRecord s r) rs
+
+-- the closings that are not none, the first record being number k
+closingsOf : ℕ → Bench → List (List ℕ) → List Closes
+closingsOf k s [] = []
+closingsOf k s (r ∷ rs) =
+    let rest = closingsOf (suc k) (afterRecord s r) rs in
+    choose (isNone (closingIn s r)) rest (at k (closingIn s r) ∷ rest)
 
 endOf : Bench → List (List ℕ) → Bench
 endOf s [] = s
@@ -92,6 +112,14 @@ sameList [] [] = true
 sameList [] (y ∷ m) = false
 sameList (x ∷ l) [] = false
 sameList (x ∷ l) (y ∷ m) = same x y && sameList l m
+
+sameClosings : List Closes → List Closes → Bool
+sameClosings [] [] = true
+sameClosings [] (y ∷ m) = false
+sameClosings (x ∷ l) [] = false
+sameClosings (x ∷ l) (y ∷ m) =
+    same (x .record-number) (y .record-number)
+    && (same (closingNumber (x .closing)) (closingNumber (y .closing)) && sameClosings l m)
 
 sameEntries : ℕ → Process → List Entry → Bool
 sameEntries k p [] = true
@@ -112,7 +140,9 @@ pub passes : Case → Bool
 passes c =
     let s = openedOf (c .n) (c .t) in
     same (choose (opens (c .n) (c .t)) 0 1) (c .opening)
-    && (sameList (answersOf s (c .records)) (c .answers) && everyIn (sameLine (endOf s (c .records))) (c .lines))
+    && (sameList (answersOf s (c .records)) (c .answers)
+    && (sameClosings (closingsOf 1 s (c .records)) (c .closings)
+    && everyIn (sameLine (endOf s (c .records))) (c .lines)))
 
 -- every process sends its message to each of two others; each of them arrives
 round3 : ℕ → List (List ℕ) → List (List ℕ)
@@ -127,7 +157,7 @@ noRefusal [] = []
 noRefusal (r ∷ rs) = 0 ∷ noRefusal rs
 
 -- ---- the table
--- 1: alone
+-- 1: alone; in round 1 of 1 the test holds as well, and the answer is the last round
 case1 : Case
 case1 =
     record {
@@ -136,11 +166,12 @@ case1 =
       opening = 0;
       records = start 1 7 ∷ close 1 ∷ [];
       answers = 0 ∷ 0 ∷ [];
+      closings = at 2 LastRound ∷ [];
       lines =
           line 1 1 false true 1 (Value 7 ∷ []) ∷ [];
     }
 
--- 2: three processes, no crash, all decide in round 2
+-- 2: three processes, no crash, all decide in round 2, each since the estimates agree
 allThree : ℕ → Line
 allThree a = line a 2 false true 7 (Value 5 ∷ Value 6 ∷ Value 7 ∷ [])
 
@@ -153,6 +184,8 @@ case2 =
       opening = 0;
       records = schedule;
       answers = noRefusal schedule;
+      closings =
+          at 16 NextRound ∷ at 17 NextRound ∷ at 18 NextRound ∷ at 31 Agreed ∷ at 32 Agreed ∷ at 33 Agreed ∷ [];
       lines = allThree 1 ∷ allThree 2 ∷ allThree 3 ∷ [];
     }
 
@@ -165,6 +198,7 @@ case3 =
       opening = 0;
       records = start 1 0 ∷ close 1 ∷ [];
       answers = 0 ∷ 0 ∷ [];
+      closings = at 2 LastRound ∷ [];
       lines =
           line 1 1 false true 1 (Value 0 ∷ []) ∷ [];
     }
@@ -181,6 +215,7 @@ case4and6 =
           ∷ close 1
           ∷ suspect 1 2 ∷ close 1 ∷ crash 1 ∷ [];
       answers = 0 ∷ 0 ∷ 0 ∷ 0 ∷ 0 ∷ 0 ∷ 0 ∷ 0 ∷ 0 ∷ 8 ∷ 0 ∷ 0 ∷ 9 ∷ [];
+      closings = at 7 NextRound ∷ at 12 LastRound ∷ [];
       lines =
           line 1 2 false true 3 (Value 40 ∷ Value 25 ∷ [])
           ∷ line 2 1 true false 3 (Absent ∷ Value 25 ∷ []) ∷ [];
@@ -188,7 +223,7 @@ case4and6 =
 
 -- 5: sizes that open and sizes that do not
 sizes : ℕ → ℕ → ℕ → Case
-sizes n t opening = record { n = n; t = t; opening = opening; records = []; answers = []; lines = [] }
+sizes n t opening = record { n = n; t = t; opening = opening; records = []; answers = []; closings = []; lines = [] }
 
 -- 7: an estimate arrived, then its sender is suspected, then the close: it is in the next set
 case7 : Case
@@ -199,6 +234,7 @@ case7 =
       opening = 0;
       records = start 1 40 ∷ start 2 25 ∷ send 1 2 ∷ send 2 1 ∷ arrive 2 1 1 ∷ crash 2 ∷ suspect 1 2 ∷ close 1 ∷ [];
       answers = 0 ∷ 0 ∷ 0 ∷ 0 ∷ 0 ∷ 0 ∷ 0 ∷ 0 ∷ [];
+      closings = at 8 NextRound ∷ [];
       lines = line 1 2 false false 3 (Value 40 ∷ Value 25 ∷ []) ∷ [];
     }
 
@@ -211,6 +247,7 @@ case8 =
       opening = 0;
       records = start 1 5 ∷ crash 2 ∷ suspect 1 2 ∷ send 1 2 ∷ close 1 ∷ [];
       answers = 0 ∷ 0 ∷ 0 ∷ 0 ∷ 0 ∷ [];
+      closings = at 5 NextRound ∷ [];
       lines = line 1 2 false false 1 (Value 5 ∷ Absent ∷ []) ∷ [];
     }
 
@@ -226,26 +263,45 @@ case9 =
           ∷ arrive 2 1 1
           ∷ arrive 3 1 1 ∷ close 1 ∷ crash 3 ∷ suspect 2 3 ∷ close 2 ∷ [];
       answers = 0 ∷ 0 ∷ 0 ∷ 0 ∷ 0 ∷ 0 ∷ 0 ∷ 0 ∷ 0 ∷ 0 ∷ 0 ∷ 0 ∷ 0 ∷ 0 ∷ 0 ∷ [];
+      closings = at 12 NextRound ∷ at 15 NextRound ∷ [];
       lines =
           line 1 2 false false 7 (Value 5 ∷ Value 6 ∷ Value 7 ∷ [])
           ∷ line 2 2 false false 3 (Value 5 ∷ Value 6 ∷ Absent ∷ []) ∷ [];
     }
 
+-- and one: a decision that arrives decides, and is no close
+case10 : Case
+case10 =
+    record {
+      n = 2;
+      t = 0;
+      opening = 0;
+      records =
+          start 1 5 ∷ start 2 6 ∷ send 1 2 ∷ send 2 1 ∷ arrive 1 2 1 ∷ arrive 2 1 1 ∷ close 1 ∷ send 1 2 ∷ arrive 1 2 0
+          ∷ [];
+      answers = 0 ∷ 0 ∷ 0 ∷ 0 ∷ 0 ∷ 0 ∷ 0 ∷ 0 ∷ 0 ∷ [];
+      closings = at 7 LastRound ∷ [];
+      lines = line 2 1 false true 3 (Value 5 ∷ Value 6 ∷ []) ∷ [];
+    }
+
 pub table : List Case
-table = case1 ∷ case2 ∷ case3 ∷ case4and6 ∷ sizes 16 15 0 ∷ sizes 17 0 1 ∷ sizes 0 0 1 ∷ case7 ∷ case8 ∷ case9 ∷ []
+table =
+    case1 ∷ case2 ∷ case3 ∷ case4and6 ∷ sizes 16 15 0 ∷ sizes 17 0 1 ∷ sizes 0 0 1 ∷ case7 ∷ case8 ∷ case9 ∷ case10
+    ∷ []
 
 -- every case passes: the checker computes it from the definitions
 pub cases : everyIn passes table ≡ true
-unfolding bytes start send arrive close crash suspect answersOf endOf sameBool sameList sameEntries
-    pred sameLine passes
-    round3 noRefusal allThree case1 case2 case3 case4and6 sizes case7 case8 case9 table
+unfolding bytes start send arrive close crash suspect answersOf closingsOf endOf sameBool sameList sameClosings
+    sameEntries pred sameLine passes
+    round3 noRefusal allThree case1 case2 case3 case4and6 sizes case7 case8 case9 case10 table
     has insertOf removeOf unionOf intersectionOf differenceOf allOf sizeOf ones _&&_ _||_ same below choose
     entryOf sameEntry each every nothingOf oneOf filledWord fillOf fillFrom sameTo allSame
     idleOf hasDecided takesPart openRoundOf startOf keeps receiveOf arrivedOf dueOf nextOf peersOf filledOf agreedOf
-    decidesOf owedOf decideOf advanceOf closeOf adoptOf messageOf sendOf suspectOf
+    closingOf closingNumber opensNext decidesOf owedOf decideOf advanceOf closeOf adoptOf messageOf sendOf suspectOf
     processAt sentAt transitAt crashedAt withProcess withSent withTransit withCrashed openedOf opens everyIn within
     soundData soundProcess soundOf
     wordOf oneTo usesB usesR usesValue fieldB fieldR fieldValue fields messageFrom eventOf partsOf decodeOf check
     numberOf actor isCrash passes7 passes8 passes9 refuses refusesDecoded refusal
     opensRound rowsAt sends arrives closesAs effect effectDecoded effectOf afterRecord
+    closingAt closingDecoded closingIn isNone
 cases = refl

@@ -1,6 +1,8 @@
 pub mod CallLaws
 pub mod Calls
 pub mod Cases
+pub mod ClosingLaws
+pub mod Closings
 pub mod Effect
 pub mod EveryInLaws
 pub mod OneByOne

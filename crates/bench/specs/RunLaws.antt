@@ -12,39 +12,43 @@ use lib.ListN.{length, take, drop, length-take, length-drop}
 use lib.Seq.{drop-drop}
 use Rattle.sets.specs.Truth.{same, choose}
 use Rattle.sets.specs.TruthLaws.{choose-on, choose-off, same-mk, same-off, eq-or}
+use Rattle.process.specs.declared.Closing.{Closing}
+use Rattle.process.specs.declared.Closing.the-variants.{None}
 use Rattle.bench.specs.declared.Bench.{Bench}
 use Rattle.bench.specs.declared.Cause.{Cause}
 use Rattle.bench.specs.declared.Cause.the-variants.{Empty, Spent, Refused}
 use Rattle.bench.specs.Sound.{soundOf}
 use Rattle.bench.specs.Refuse.{refusal}
 use Rattle.bench.specs.Effect.{effectOf}
+use Rattle.bench.specs.Closings.{closingIn, lastOf}
 use Rattle.bench.specs.Calls.{refused, afterRecord, endedOf, runFrom, runOf}
 use Rattle.bench.specs.OneByOne.{restOf, recordAt, steps}
 use Rattle.bench.specs.RefuseLaws.{accepted-effect, accepted}
 use Rattle.bench.specs.SoundLaws.{sound-step}
 
--- ---- the turns of the loop, at any budget, bytes, bench and numbers so far
-module _ (l : List ℕ) (s : Bench) (accepted taken : ℕ) where
-  pub run-empty : (budget : ℕ) → length l ≡ 0 → runFrom budget l s accepted taken ≡ endedOf s accepted Empty taken
+-- ---- the turns of the loop, at any budget, bytes, bench, numbers and closing so far
+module _ (l : List ℕ) (s : Bench) (accepted : ℕ) (c : Closing) (taken : ℕ) where
+  pub run-empty : (budget : ℕ) → length l ≡ 0 → runFrom budget l s accepted c taken ≡ endedOf s accepted Empty c taken
   unfolding runFrom
-  run-empty zero e = ap (λ c. endedOf s accepted c taken) (choose-on _ _ _ (same-mk _ _ e))
+  run-empty zero e = ap (λ x. endedOf s accepted x c taken) (choose-on _ _ _ (same-mk _ _ e))
   run-empty (suc budget) e = choose-on _ _ _ (same-mk _ _ e)
 
   pub run-spent : (budget : ℕ) → length l ≢ 0 → budget ≡ 0
-      → runFrom budget l s accepted taken ≡ endedOf s accepted Spent taken
+      → runFrom budget l s accepted c taken ≡ endedOf s accepted Spent c taken
   unfolding runFrom
-  run-spent zero h z = ap (λ c. endedOf s accepted c taken) (choose-off _ _ _ (same-off _ _ h))
+  run-spent zero h z = ap (λ x. endedOf s accepted x c taken) (choose-off _ _ _ (same-off _ _ h))
   run-spent (suc budget) h z = absurd (omega arith)
 
   pub run-refused : (budget : ℕ) → length l ≢ 0 → budget ≢ 0 → refusal s (take 8 l) ≢ 0
-      → runFrom budget l s accepted taken ≡ endedOf s accepted (Refused (refused (refusal s (take 8 l)))) taken
+      → runFrom budget l s accepted c taken ≡ endedOf s accepted (Refused (refused (refusal s (take 8 l)))) c taken
   unfolding runFrom
   run-refused zero h b r = absurd (b refl)
   run-refused (suc budget) h b r = choose-off _ _ _ (same-off _ _ h) ∙ choose-off _ _ _ (same-off _ _ r)
 
   pub run-accepted : (budget : ℕ) → length l ≢ 0 → budget ≢ 0 → refusal s (take 8 l) ≡ 0
-      → runFrom budget l s accepted taken
-      ≡ runFrom (budget - 1) (drop 8 l) (effectOf s (take 8 l)) (accepted + 1) (taken + 8)
+      → runFrom budget l s accepted c taken
+      ≡ runFrom (budget - 1) (drop 8 l) (effectOf s (take 8 l)) (accepted + 1) (lastOf c (closingIn s (take 8 l)))
+      (taken + 8)
   unfolding runFrom
   run-accepted zero h b r = absurd (b refl)
   run-accepted (suc budget) h b r =
@@ -53,11 +57,12 @@ module _ (l : List ℕ) (s : Bench) (accepted taken : ℕ) where
 
 -- ---- a damaged bench is refused first; a sound one is run from nothing taken
 pub run-damaged : (budget : ℕ) (l : List ℕ) (s : Bench) → soundOf s ≡ false
-    → runOf budget l s ≡ endedOf s 0 (Refused (refused 2)) 0
+    → runOf budget l s ≡ endedOf s 0 (Refused (refused 2)) None 0
 unfolding runOf
 run-damaged budget l s d = choose-off _ _ _ d
 
-pub run-sound : (budget : ℕ) (l : List ℕ) (s : Bench) → soundOf s ≡ true → runOf budget l s ≡ runFrom budget l s 0 0
+pub run-sound : (budget : ℕ) (l : List ℕ) (s : Bench) → soundOf s ≡ true
+    → runOf budget l s ≡ runFrom budget l s 0 None 0
 unfolding runOf
 run-sound budget l s h = choose-on _ _ _ h
 
@@ -81,29 +86,37 @@ why-is left rest s (Refused r) w =
     ap (λ k. Refused (refused k)) (sym (w .2))
     ∙ sym (choose-off _ _ _ (same-off _ _ (w .0)) ∙ choose-off _ _ _ (same-off _ _ (w .1)))
 
-rest-next : (k : ℕ) (l : List ℕ) → restOf k (drop 8 l) ≡ restOf (suc k) l
+pub rest-next : (k : ℕ) (l : List ℕ) → restOf k (drop 8 l) ≡ restOf (suc k) l
 unfolding restOf
 rest-next k l = let e : 8 + 8 * k ≡ 8 * suc k = omega arith in drop-drop (8 * k) 8 l ∙ rw e
 
+-- the closing after the first k records, with c before them
+unfoldable pub closingTo : ℕ → Bench → List ℕ → Closing → Closing
+closingTo zero s l c = c
+closingTo (suc k) s l c =
+    closingTo k (afterRecord s (take 8 l)) (drop 8 l) (lastOf c (closingIn s (take 8 l)))
+
 -- run gives what k records give one by one, all of them accepted, with the cause of the place where it stopped
-pub record Runs (budget : ℕ) (l : List ℕ) (s : Bench) (accepted taken : ℕ) : Type 0 where
+pub record Runs (budget : ℕ) (l : List ℕ) (s : Bench) (accepted : ℕ) (c : Closing) (taken : ℕ) : Type 0 where
   pub k : ℕ
   pub cause : Cause
-  pub gives : runFrom budget l s accepted taken ≡ endedOf (steps k s l) (accepted + k) cause (taken + 8 * k)
+  pub gives : runFrom budget l s accepted c taken
+      ≡ endedOf (steps k s l) (accepted + k) cause (closingTo k s l c) (taken + 8 * k)
   pub within-budget : k ≤ budget
   pub within-bytes : 8 * k ≤ length l
   pub each-accepted : (i : ℕ) → i < k → refusal (steps i s l) (recordAt i l) ≡ 0
   pub why : Why (budget - k) (restOf k l) (steps k s l) cause
 
 -- it stops at once, with a cause
-stops : (budget : ℕ) (l : List ℕ) (s : Bench) (a t : ℕ) (c : Cause) → runFrom budget l s a t ≡ endedOf s a c t
-    → Why budget l s c
-    → Runs budget l s a t
-unfolding steps restOf
-stops budget l s a t c e w =
+stops : (budget : ℕ) (l : List ℕ) (s : Bench) (a : ℕ) (c : Closing) (t : ℕ) (x : Cause)
+    → runFrom budget l s a c t ≡ endedOf s a x c t
+    → Why budget l s x
+    → Runs budget l s a c t
+unfolding steps restOf closingTo
+stops budget l s a c t x e w =
     record {
       k = 0;
-      cause = c;
+      cause = x;
       gives = e ∙ cc (add-zero a, add-zero t);
       within-budget = omega arith;
       within-bytes = omega arith;
@@ -112,10 +125,11 @@ stops budget l s a t c e w =
     }
 
 -- it takes one record more
-goes : (budget : ℕ) (l : List ℕ) (s : Bench) (a t : ℕ) → length l ≢ 0 → refusal s (take 8 l) ≡ 0
-    → Runs budget (drop 8 l) (afterRecord s (take 8 l)) (a + 1) (t + 8) → Runs (suc budget) l s a t
-unfolding steps recordAt restOf
-goes budget l s a t h z w =
+goes : (budget : ℕ) (l : List ℕ) (s : Bench) (a : ℕ) (c : Closing) (t : ℕ) → length l ≢ 0 → refusal s (take 8 l) ≡ 0
+    → Runs budget (drop 8 l) (afterRecord s (take 8 l)) (a + 1) (lastOf c (closingIn s (take 8 l))) (t + 8)
+    → Runs (suc budget) l s a c t
+unfolding steps recordAt restOf closingTo
+goes budget l s a c t h z w =
     record {
       k = suc (w .k);
       cause = w .cause;
@@ -123,7 +137,7 @@ goes budget l s a t h z w =
           let p : suc budget - 1 ≡ budget = omega arith in
           let q : a + suc (w .k) ≡ a + 1 + w .k = omega arith in
           let r : t + 8 * suc (w .k) ≡ t + 8 + 8 * w .k = omega arith in
-          run-accepted l s a t (suc budget) h (omega arith) z
+          run-accepted l s a c t (suc budget) h (omega arith) z
           ∙ rw (p, ← accepted-effect s (take 8 l) z, q, r) (w .gives);
       within-budget = omega (arith, w .within-budget);
       within-bytes = omega (arith, w .within-bytes, length-drop 8 l, length-take 8 l, accepted s (take 8 l) z .size);
@@ -137,17 +151,19 @@ goes budget l s a t h z w =
     each zero b = z
     each (suc i) b = rw (← rest-next i l) (w .each-accepted i (omega arith))
 
-pub runs : (budget : ℕ) (l : List ℕ) (s : Bench) (accepted taken : ℕ) → Runs budget l s accepted taken
+pub runs : (budget : ℕ) (l : List ℕ) (s : Bench) (accepted : ℕ) (c : Closing) (taken : ℕ)
+    → Runs budget l s accepted c taken
 unfolding Why
-runs zero l s a t =
-    ⊎-elim (λ e. stops zero l s a t Empty (run-empty l s a t zero e) e)
-    (λ h. stops zero l s a t Spent (run-spent l s a t zero h refl) (h, refl)) (eq-or (length l) 0)
-runs (suc budget) l s a t =
-    ⊎-elim (λ e. stops (suc budget) l s a t Empty (run-empty l s a t (suc budget) e) e)
+runs zero l s a c t =
+    ⊎-elim (λ e. stops zero l s a c t Empty (run-empty l s a c t zero e) e)
+    (λ h. stops zero l s a c t Spent (run-spent l s a c t zero h refl) (h, refl)) (eq-or (length l) 0)
+runs (suc budget) l s a c t =
+    ⊎-elim (λ e. stops (suc budget) l s a c t Empty (run-empty l s a c t (suc budget) e) e)
     (λ h.
-    ⊎-elim (λ z. goes budget l s a t h z (runs budget (drop 8 l) (afterRecord s (take 8 l)) (a + 1) (t + 8)))
-    (λ r. stops (suc budget) l s a t (Refused (refused (refusal s (take 8 l))))
-    (run-refused l s a t (suc budget) h (omega arith) r) (h, omega arith, refl, r))
+    ⊎-elim (λ z. goes budget l s a c t h z
+    (runs budget (drop 8 l) (afterRecord s (take 8 l)) (a + 1) (lastOf c (closingIn s (take 8 l))) (t + 8)))
+    (λ r. stops (suc budget) l s a c t (Refused (refused (refusal s (take 8 l))))
+    (run-refused l s a c t (suc budget) h (omega arith) r) (h, omega arith, refl, r))
     (eq-or (refusal s (take 8 l)) 0)) (eq-or (length l) 0)
 
 -- a run of a sound bench leaves it sound

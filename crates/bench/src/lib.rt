@@ -3,6 +3,7 @@ mod open;
 
 use global_data::GlobalData;
 pub use open::sizes_open;
+use process::Closing;
 use process::Process;
 
 // A message: an estimate with its round, or a decision. Its global data is kept in the bench.
@@ -79,9 +80,10 @@ pub struct Opened {
     pub bench: Bench,
 }
 
-// What the call for one record gives.
+// What the call for one record gives. A closing is that of an accepted close, and none of any other record.
 pub struct Stepped {
     pub answer: Answer,
+    pub closing: Closing,
     pub bench: Bench,
 }
 
@@ -100,11 +102,13 @@ pub enum Cause {
     Refused(Refusal),
 }
 
-// What a run gives: the bench, how many records it accepted, why it ended, and how many bytes of the schedule it took.
+// What a run gives: the bench, how many records it accepted, why it ended, the closing of the last close it stepped,
+// and how many bytes of the schedule it took.
 pub struct Ended {
     pub bench: Bench,
     pub accepted: u32,
     pub cause: Cause,
+    pub closing: Closing,
     pub taken: usize,
 }
 

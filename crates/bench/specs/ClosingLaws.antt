@@ -36,9 +36,9 @@ use Rattle.bench.specs.OneByOne.{restOf, recordAt, steps}
 use Rattle.bench.specs.RunLaws.{rest-next, closingTo}
 
 -- ---- one record. A close always has one; of the events by their kinds, a close alone
-some : (n t a : ℕ) (rows : ℕ → GlobalData) (p : Process) → isNone (closingOf n t a rows p) ≡ false
+pub close-some : (n t a : ℕ) (rows : ℕ → GlobalData) (p : Process) → isNone (closingOf n t a rows p) ≡ false
 unfolding isNone closingOf closingNumber same choose
-some n t a rows p = go (same (p .round) (t + 1)) (agreedOf n a rows p)
+close-some n t a rows p = go (same (p .round) (t + 1)) (agreedOf n a rows p)
   where
     go : (last agreed : Bool)
         → isNone (choose last LastRound (choose agreed Agreed NextRound)) ≡ false
@@ -48,7 +48,7 @@ some n t a rows p = go (same (p .round) (t + 1)) (agreedOf n a rows p)
 
 by-close : (s : Bench) (a b r v : ℕ) → isNone (closingAt (eventOf 4 a b r v) s) ≡ not (same 4 4)
 unfolding closingAt eventOf same choose
-by-close s a b r v = some _ _ _ _ _
+by-close s a b r v = close-some _ _ _ _ _
 
 by-other : (s : Bench) (k a b r v : ℕ) → same k 4 ≡ false → isNone (closingAt (eventOf k a b r v) s) ≡ true
 unfolding closingAt isNone closingNumber eventOf same choose
@@ -150,6 +150,10 @@ module _ (s : Bench) (l : List ℕ) where
 pub last-none : (c : Closing) → lastOf c None ≡ c
 unfolding lastOf
 last-none c = choose-on _ _ _ none
+
+pub last-close : (c d : Closing) → isNone d ≡ false → lastOf c d ≡ d
+unfolding lastOf
+last-close c d e = choose-off _ _ _ e
 
 pub none-last : (d : Closing) → lastOf None d ≡ d
 unfolding lastOf isNone closingNumber same choose

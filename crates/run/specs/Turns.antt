@@ -14,13 +14,15 @@ use Rattle.sets.specs.Lists.{each, every}
 use Rattle.sets.specs.EachLaws.{getD-each}
 use Rattle.sets.specs.Set.{has, insertOf, removeOf}
 use Rattle.sets.specs.Truth.{_&&_, choose, _||_}
-use Rattle.sets.specs.TruthLaws.{and-l, Is, on, off, is, clash, choose-on, choose-off, or-none-l, same-not, check-zero}
+use Rattle.sets.specs.TruthLaws.{and-l, Is, on, off, is, clash, choose-on, choose-off, check-zero}
 use Rattle.global_data.specs.declared.GlobalData.{GlobalData}
 use Rattle.global_data.specs.GlobalData.{noData, fillOf, fillFrom, sameTo, allSame, rowsOf}
 use Rattle.process.specs.declared.Process.{Process}
-use Rattle.process.specs.Laws.{decide-decided}
-use Rattle.process.specs.Steps.{hasDecided, noProcess, openRoundOf, startOf, peersOf, filledOf, agreedOf, decidesOf}
-use Rattle.process.specs.Steps.{advanceOf, closeOf, messageOf, sendOf, suspectOf, receiveOf, adoptOf}
+use Rattle.process.specs.declared.Closing.{Closing}
+use Rattle.process.specs.declared.Closing.the-variants.{None}
+use Rattle.process.specs.Laws.{decide-decided, open-round}
+use Rattle.process.specs.Steps.{hasDecided, noProcess, openRoundOf, startOf, peersOf, filledOf, agreedOf, closingOf}
+use Rattle.process.specs.Steps.{decidesOf, advanceOf, closeOf, messageOf, sendOf, suspectOf, receiveOf, adoptOf}
 use Rattle.bench.specs.declared.Bench.{Bench}
 use Rattle.bench.specs.declared.Refusal.{Refusal}
 use Rattle.bench.specs.declared.Message.{Message}
@@ -38,19 +40,22 @@ use Rattle.bench.specs.RecordLaws.{messageIn, inRange, decode-size, decode-refu
 use Rattle.bench.specs.Refuse.{numberOf, actor, isCrash, passes7, passes8, passes9, refuses, refusal}
 use Rattle.bench.specs.RefuseLaws.{refusal-unread, refusal-event, accepted-effect}
 use Rattle.bench.specs.Effect.{opensRound, rowsAt, sends, arrives, closesAs, effect, effectDecoded, effectOf}
+use Rattle.bench.specs.Closings.{closingAt, closingIn, lastOf}
+use Rattle.bench.specs.ClosingLaws.{close-some, closing-event, last-none, last-close}
 use Rattle.bench.specs.Calls.{refused, endedOf, runFrom, runOf}
 use Rattle.bench.specs.RunLaws.{run-empty, run-spent, run-refused, run-accepted, run-sound}
 use Rattle.checks.specs.Checks.{firstFailed, startCheck, messageCheck, closeCheck}
 use Rattle.checks.specs.Checks.{crashCheck, suspectCheck, takes-started}
 
--- ---- the loop's head: of the schedule l, `at` bytes are taken in `accepted` records, from b to s
-pub record Running (budget : ℕ) (l : List ℕ) (b s : Bench) (at accepted : ℕ) : Type 0 where
+-- ---- the loop's head: of the schedule l, `at` bytes are taken in `accepted` records, from b to s; c is the last
+-- closing so far
+pub record Running (budget : ℕ) (l : List ℕ) (b s : Bench) (at accepted : ℕ) (c : Closing) : Type 0 where
   pub sound : soundOf s ≡ true
   pub within-bytes : at ≤ length l
   pub within-budget : accepted ≤ budget
-  pub gives : runFrom (budget - accepted) (drop at l) s accepted at ≡ runOf budget l b
+  pub gives : runFrom (budget - accepted) (drop at l) s accepted c at ≡ runOf budget l b
 
-pub running-new : (budget : ℕ) (l : List ℕ) (b : Bench) → soundOf b ≡ true → Running budget l b b 0 0
+pub running-new : (budget : ℕ) (l : List ℕ) (b : Bench) → soundOf b ≡ true → Running budget l b b 0 0 None
 running-new budget l b e =
     record {
       sound = e;
@@ -60,37 +65,37 @@ running-new budget l b e =
     }
 
 -- a turn in which the event e was decoded
-pub record Turn (budget : ℕ) (l : List ℕ) (b s : Bench) (at accepted : ℕ) (d : Decoded) : Type 0 where
-  pub running : Running budget l b s at accepted
+pub record Turn (budget : ℕ) (l : List ℕ) (b s : Bench) (at accepted : ℕ) (c : Closing) (d : Decoded) : Type 0 where
+  pub running : Running budget l b s at accepted c
   pub left : accepted ≢ budget
   pub whole : at + 8 ≤ length l
   pub decoded : decodeOf (s .n) (s .t) (take (at + 8 - at) (drop at l)) ≡ d
 
-module _ (budget : ℕ) (l : List ℕ) (b s : Bench) (at accepted : ℕ) where
+module _ (budget : ℕ) (l : List ℕ) (b s : Bench) (at accepted : ℕ) (c : Closing) where
   some-left : at < length l → length (drop at l) ≢ 0
   some-left h e = omega (arith, length-drop at l)
 
-  pub ends-empty : Running budget l b s at accepted → length l ≤ at → endedOf s accepted Empty at ≡ runOf budget l b
+  pub ends-empty : Running budget l b s at accepted c → length l ≤ at → endedOf s accepted Empty c at ≡ runOf budget l b
   ends-empty w h =
-      sym (run-empty (drop at l) s accepted at (budget - accepted) (omega (arith, length-drop at l))) ∙ w .gives
+      sym (run-empty (drop at l) s accepted c at (budget - accepted) (omega (arith, length-drop at l))) ∙ w .gives
 
-  pub ends-spent : Running budget l b s at accepted → at < length l → accepted ≡ budget
-      → endedOf s accepted Spent at ≡ runOf budget l b
+  pub ends-spent : Running budget l b s at accepted c → at < length l → accepted ≡ budget
+      → endedOf s accepted Spent c at ≡ runOf budget l b
   ends-spent w h e =
-      sym (run-spent (drop at l) s accepted at (budget - accepted) (some-left h) (omega arith)) ∙ w .gives
+      sym (run-spent (drop at l) s accepted c at (budget - accepted) (some-left h) (omega arith)) ∙ w .gives
 
   -- refused, by the number of the next record
-  ends-refused : Running budget l b s at accepted → at < length l → accepted ≢ budget → (k : ℕ)
+  ends-refused : Running budget l b s at accepted c → at < length l → accepted ≢ budget → (k : ℕ)
       → refusal s (take 8 (drop at l)) ≡ k
-      → k ≢ 0 → endedOf s accepted (RefusedRun (refused k)) at ≡ runOf budget l b
+      → k ≢ 0 → endedOf s accepted (RefusedRun (refused k)) c at ≡ runOf budget l b
   ends-refused w h f k e z =
-      sym (run-refused (drop at l) s accepted at (budget - accepted) (some-left h)
+      sym (run-refused (drop at l) s accepted c at (budget - accepted) (some-left h)
       (λ u. f (omega (arith, w .within-budget))) (rw e z)
-      ∙ ap (λ k. endedOf s accepted (RefusedRun (refused k)) at) e) ∙ w .gives
+      ∙ ap (λ k. endedOf s accepted (RefusedRun (refused k)) c at) e) ∙ w .gives
 
   -- fewer than 8 bytes are left
-  pub ends-short : Running budget l b s at accepted → at < length l → accepted ≢ budget → length l - at < 8
-      → endedOf s accepted (RefusedRun (refused 3)) at ≡ runOf budget l b
+  pub ends-short : Running budget l b s at accepted c → at < length l → accepted ≢ budget → length l - at < 8
+      → endedOf s accepted (RefusedRun (refused 3)) c at ≡ runOf budget l b
   ends-short w h f g =
       let r : Refusal = record { number = 3 } in
       ends-refused w h f 3
@@ -100,41 +105,43 @@ module _ (budget : ℕ) (l : List ℕ) (b s : Bench) (at accepted : ℕ) where
       (omega arith)
 
   -- the next 8 bytes, as the code takes them
-  next : (d : Decoded) → Turn budget l b s at accepted d → decodeOf (s .n) (s .t) (take 8 (drop at l)) ≡ d
+  next : (d : Decoded) → Turn budget l b s at accepted c d → decodeOf (s .n) (s .t) (take 8 (drop at l)) ≡ d
   next d w = let e : at + 8 - at ≡ 8 = omega arith in rw e at (w .decoded)
 
-  pub ends-unread : (r : Refusal) → Turn budget l b s at accepted (Refused r)
-      → endedOf s accepted (RefusedRun r) at ≡ runOf budget l b
+  pub ends-unread : (r : Refusal) → Turn budget l b s at accepted c (Refused r)
+      → endedOf s accepted (RefusedRun r) c at ≡ runOf budget l b
   ends-unread r w =
       ends-refused (w .running) (omega (arith, w .whole)) (w .left) (r .number)
       (refusal-unread s (take 8 (drop at l)) (w .running .sound) r (next (Refused r) w))
       (decode-refused (s .n) (s .t) (take 8 (drop at l)) r (next (Refused r) w))
 
   -- k is what the code's check of the event e gives
-  pub ends-by : (e : Event) → Turn budget l b s at accepted (Got e) → (k : ℕ) → k ≡ refuses e s → k ≢ 0
-      → endedOf s accepted (RefusedRun (refused k)) at ≡ runOf budget l b
+  pub ends-by : (e : Event) → Turn budget l b s at accepted c (Got e) → (k : ℕ) → k ≡ refuses e s → k ≢ 0
+      → endedOf s accepted (RefusedRun (refused k)) c at ≡ runOf budget l b
   ends-by e w k p z =
       ends-refused (w .running) (omega (arith, w .whole)) (w .left) k
       (refusal-event s (take 8 (drop at l)) (w .running .sound) e (next (Got e) w) ∙ sym p) z
 
-  -- it is accepted, and d is the bench that the code makes
-  pub goes : (e : Event) → Turn budget l b s at accepted (Got e) → (k : ℕ) → k ≡ refuses e s → k ≡ 0 → (d : Bench)
+  -- it is accepted, d is the bench that the code makes, and x the closing that it has then
+  pub goes : (e : Event) → Turn budget l b s at accepted c (Got e) → (k : ℕ) → k ≡ refuses e s → k ≡ 0 → (d : Bench)
       → d ≡ effect e s
-      → Running budget l b d (at + 8) (accepted + 1)
+      → (x : Closing) → x ≡ lastOf c (closingAt e s)
+      → Running budget l b d (at + 8) (accepted + 1) x
   unfolding effectOf effectDecoded
-  goes e w k p z d q =
+  goes e w k p z d q x y =
       let v = w .running in
       let bytes = take 8 (drop at l) in
       let o : refusal s bytes ≡ 0 = refusal-event s bytes (v .sound) e (next (Got e) w) ∙ sym p ∙ z in
       let f : effectOf s bytes ≡ d = rw (next (Got e) w) (sym q) in
+      let g : lastOf c (closingIn s bytes) ≡ x = ap (lastOf c) (closing-event s bytes e o (next (Got e) w)) ∙ sym y in
       let one : budget - accepted - 1 ≡ budget - (accepted + 1) = omega arith in
       record {
         sound = rw (← f, ← accepted-effect s bytes o) (sound-step s bytes (v .sound));
         within-bytes = w .whole;
         within-budget = omega (arith, w .left, v .within-budget);
         gives =
-            rw (← drop-drop 8 at l, ← one, ← f)
-            (sym (run-accepted (drop at l) s accepted at (budget - accepted) (some-left (omega (arith, w .whole)))
+            rw (← drop-drop 8 at l, ← one, ← f, ← g)
+            (sym (run-accepted (drop at l) s accepted c at (budget - accepted) (some-left (omega (arith, w .whole)))
             (λ u. w .left (omega (arith, v .within-budget))) o) ∙ v .gives);
       }
 
@@ -158,8 +165,8 @@ low-in n t p q (Close a) h = omega arith
 low-in n t p q (Crash a) h = omega arith
 low-in n t p q (Suspect a b) h = (omega (arith, h .first), omega (arith, h .second))
 
-module _ {budget : ℕ} {l : List ℕ} {b s : Bench} {at accepted : ℕ} {d : Decoded}
-    (w : Turn budget l b s at accepted d) where
+module _ {budget : ℕ} {l : List ℕ} {b s : Bench} {at accepted : ℕ} {c : Closing} {d : Decoded}
+    (w : Turn budget l b s at accepted c d) where
   pub turn-bounds : Bounds s
   turn-bounds = sound-on s (w .running .sound)
 
@@ -222,19 +229,23 @@ module _ (f g : ℕ → GlobalData) (h : (k : ℕ) → k < 16 → f k ≡ g k) w
   every-rows (suc p) n m e l =
       ap₂ _&&_ (ap (λ x. choose (has m p) (sameTo n x e) true) (h p (omega arith))) (every-rows p n m e (omega arith))
 
-  pub close-rows : (n t a : ℕ) (p : Process) → closeOf n t a f p ≡ closeOf n t a g p
-  unfolding closeOf decidesOf agreedOf filledOf allSame advanceOf
-  close-rows n t a p =
+  pub closing-rows : (n t a : ℕ) (p : Process) → closingOf n t a f p ≡ closingOf n t a g p
+  unfolding closingOf agreedOf filledOf allSame
+  closing-rows n t a p =
       simp (
         fill-rows 16 (peersOf a p) (p .estimate) (omega arith),
         every-rows 16 n (peersOf a p) (fillFrom 16 (peersOf a p) g (p .estimate)) (omega arith),
       )
 
+  pub close-rows : (n t a : ℕ) (p : Process) → closeOf n t a f p ≡ closeOf n t a g p
+  unfolding closeOf decidesOf filledOf advanceOf
+  close-rows n t a p = simp (fill-rows 16 (peersOf a p) (p .estimate) (omega arith), closing-rows n t a p)
+
 -- a close that does not decide opens the next round, which is not past the last
 module _ (n t a : ℕ) (rows : ℕ → GlobalData) (p : Process) where
   pub close-opens : hasDecided (closeOf n t a rows p) ≡ false
       → (closeOf n t a rows p .round ≡ p .round + 1) × (p .round ≢ t + 1)
-  unfolding closeOf advanceOf openRoundOf decidesOf
+  unfolding closeOf advanceOf openRoundOf
   close-opens e = go (is (decidesOf n t a rows p))
     where
       go : Is (decidesOf n t a rows p) → (closeOf n t a rows p .round ≡ p .round + 1) × (p .round ≢ t + 1)
@@ -243,7 +254,7 @@ module _ (n t a : ℕ) (rows : ℕ → GlobalData) (p : Process) where
           (rw (choose-on (decidesOf n t a rows p) _ (advanceOf a (filledOf a rows p) p) d) at e)
       go (off d) = (
         rw (choose-off (decidesOf n t a rows p) _ (advanceOf a (filledOf a rows p) p) d),
-        same-not _ _ (or-none-l _ _ d),
+        open-round n t a rows p d,
       )
 
 -- a start opens round 1
@@ -371,18 +382,50 @@ rows-each : (sent : List GlobalData) (r : ℕ) → rowsIn sent r ≡ each 16 (λ
 unfolding each
 rows-each sent r = ap (λ (i : ℕ). getD sent i noData ∷ othersIn sent r) (sym (add-zero r))
 
+-- the rows that the code gathers are those of the round
+rows-gathered : (s : Bench) (a r : ℕ) → r ≡ processAt s a .round - 1 → (k : ℕ) → k < 16
+    → rowsOf (rowsIn (s .sent) r) k ≡ rowsAt s (processAt s a .round) k
+unfolding rowsAt sentAt
+rows-gathered s a r e k l =
+    ap (λ (rows : List GlobalData). getD rows k noData) (rows-each (s .sent) r)
+    ∙ getD-each 16 (λ k. getD (s .sent) (r + k * 16) noData) noData k l
+    ∙ ap (λ i. getD (s .sent) i noData) (omega (arith, e))
+
+-- ---- the closing: of a close it is the new one, and any other event keeps the one before
+module _ (c : Closing) (s : Bench) where
+  pub kept-start : (a v : ℕ) → c ≡ lastOf c (closingAt (Start a v) s)
+  unfolding closingAt
+  kept-start a v = sym (last-none c)
+
+  pub kept-send : (a b : ℕ) → c ≡ lastOf c (closingAt (Send a b) s)
+  unfolding closingAt
+  kept-send a b = sym (last-none c)
+
+  pub kept-arrive : (a b : ℕ) (m : Message) → c ≡ lastOf c (closingAt (Arrive a b m) s)
+  unfolding closingAt
+  kept-arrive a b m = sym (last-none c)
+
+  pub kept-crash : (a : ℕ) → c ≡ lastOf c (closingAt (Crash a) s)
+  unfolding closingAt
+  kept-crash a = sym (last-none c)
+
+  pub kept-suspect : (a b : ℕ) → c ≡ lastOf c (closingAt (Suspect a b) s)
+  unfolding closingAt
+  kept-suspect a b = sym (last-none c)
+
+pub closing-new : (c x : Closing) (s : Bench) (a r : ℕ) → r ≡ processAt s a .round - 1
+    → x ≡ closingOf (s .n) (s .t) a (rowsOf (rowsIn (s .sent) r)) (processAt s a)
+    → x ≡ lastOf c (closingAt (Close a) s)
+unfolding closingAt
+closing-new c x s a r e h =
+    h ∙ closing-rows _ _ (rows-gathered s a r e) (s .n) (s .t) a (processAt s a)
+    ∙ sym (last-close c _ (close-some _ _ _ _ _))
+
 -- q is what the code makes of process a at its close
 module _ (s : Bench) (a r : ℕ) (q : Process) (e : r ≡ processAt s a .round - 1)
     (h : q ≡ closeOf (s .n) (s .t) a (rowsOf (rowsIn (s .sent) r)) (processAt s a)) where
   closed : q ≡ closeOf (s .n) (s .t) a (rowsAt s (processAt s a .round)) (processAt s a)
-  unfolding rowsAt sentAt
-  closed =
-      h ∙ close-rows (rowsOf (rowsIn (s .sent) r)) (rowsAt s (processAt s a .round))
-      (λ k l.
-      ap (λ (rows : List GlobalData). getD rows k noData) (rows-each (s .sent) r)
-      ∙ getD-each 16 (λ k. getD (s .sent) (r + k * 16) noData) noData k l
-      ∙ ap (λ i. getD (s .sent) i noData) (omega (arith, e)))
-      (s .n) (s .t) a (processAt s a)
+  closed = h ∙ close-rows _ _ (rows-gathered s a r e) (s .n) (s .t) a (processAt s a)
 
   pub effect-decides : hasDecided q ≡ true → withProcess s a q ≡ effect (Close a) s
   unfolding effect closesAs

@@ -12,6 +12,7 @@ use checks::crash_check;
 use checks::message_check;
 use checks::start_check;
 use checks::suspect_check;
+use process::Closing;
 use records::decode;
 use sets::set_within;
 use soundness::parts_sound;
@@ -22,13 +23,14 @@ ghost use Rattle.bench.specs.Refuse.{numberOf};
 ghost use Rattle.bench.specs.Calls.{refused, endedOf, runOf};
 
 // A run that ends with a refusal.
-fn turned_away(s: Bench, accepted: u32, number: u8, taken: usize) -> Ended
-    ensures { λ r. ⌜ r ≡ endedOf s accepted (RefusedRun (refused number)) taken ⌝ }
+fn turned_away(s: Bench, accepted: u32, number: u8, closing: Closing, taken: usize) -> Ended
+    ensures { λ r. ⌜ r ≡ endedOf s accepted (RefusedRun (refused number)) closing taken ⌝ }
 {
     Ended {
         bench: s,
         accepted,
         cause: Cause::Refused(Refusal { number }),
+        closing,
         taken,
     }
 }
@@ -60,7 +62,7 @@ pub fn run_bytes(bench: Bench, schedule: &[u8], budget: u32) -> Ended
     let processes = s.processes;
     let words = s.in_transit;
     if !parts_sound(s.n, s.t, s.crashed, processes, words) {
-        return turned_away(s, 0, 2, 0);
+        return turned_away(s, 0, 2, Closing::None, 0);
     }
     let mut rows = true;
     let mut k: usize = 0;
@@ -70,21 +72,23 @@ pub fn run_bytes(bench: Bench, schedule: &[u8], budget: u32) -> Ended
         k += 1;
     }
     if !rows {
-        return turned_away(s, 0, 2, 0);
+        return turned_away(s, 0, 2, Closing::None, 0);
     }
     let mut at: usize = 0;
     let mut accepted: u32 = 0;
+    let mut closing = Closing::None;
     while at < schedule.len() {
         if accepted == budget {
             return Ended {
                 bench: s,
                 accepted,
                 cause: Cause::Spent,
+                closing,
                 taken: at,
             };
         }
         if schedule.len() - at < 8 {
-            return turned_away(s, accepted, 3, at);
+            return turned_away(s, accepted, 3, closing, at);
         }
         // the record at `from`, and what was accepted before it
         let from = at;
@@ -96,7 +100,7 @@ pub fn run_bytes(bench: Bench, schedule: &[u8], budget: u32) -> Ended
         let crashed = s.crashed;
         match decode(s.n, s.t, &schedule[from..at]) {
             Decoded::Refused(r) => {
-                return turned_away(s, before, r.number, from);
+                return turned_away(s, before, r.number, closing, from);
             }
             Decoded::Got(e) => match e {
                 Event::Start {
@@ -106,7 +110,7 @@ pub fn run_bytes(bench: Bench, schedule: &[u8], budget: u32) -> Ended
                     let p = s.processes[a];
                     let k = start_check(crashed, a, p.round);
                     if k != 0 {
-                        return turned_away(s, before, k, from);
+                        return turned_away(s, before, k, closing, from);
                     }
                     let q = p.start(n, a, v);
                     let g = q.estimate;
@@ -119,7 +123,7 @@ pub fn run_bytes(bench: Bench, schedule: &[u8], budget: u32) -> Ended
                     let p = s.processes[a];
                     let k = message_check(crashed, a, p.outbox, b);
                     if k != 0 {
-                        return turned_away(s, before, k, from);
+                        return turned_away(s, before, k, closing, from);
                     }
                     let i = a * 17 + p.message();
                     let word = s.in_transit[i];
@@ -136,7 +140,7 @@ pub fn run_bytes(bench: Bench, schedule: &[u8], budget: u32) -> Ended
                     let word = s.in_transit[i];
                     let k = message_check(crashed, b, word, b);
                     if k != 0 {
-                        return turned_away(s, before, k, from);
+                        return turned_away(s, before, k, closing, from);
                     }
                     s.in_transit[i] = sets::remove(word, b);
                     let p = s.processes[b];
@@ -157,7 +161,7 @@ pub fn run_bytes(bench: Bench, schedule: &[u8], budget: u32) -> Ended
                     let p = s.processes[a];
                     let k = close_check(crashed, a, p);
                     if k != 0 {
-                        return turned_away(s, before, k, from);
+                        return turned_away(s, before, k, closing, from);
                     }
                     let r = round_index(p.round);
                     let rows = [
@@ -178,7 +182,9 @@ pub fn run_bytes(bench: Bench, schedule: &[u8], budget: u32) -> Ended
                         s.sent[r + 224],
                         s.sent[r + 240],
                     ];
-                    let q = p.close(n, t, a, rows);
+                    let c = p.close(n, t, a, rows);
+                    let q = c.process;
+                    closing = c.closing;
                     s.processes[a] = q;
                     if q.has_decided() {
                         continue;
@@ -191,7 +197,7 @@ pub fn run_bytes(bench: Bench, schedule: &[u8], budget: u32) -> Ended
                 Event::Crash { process: a } => {
                     let k = crash_check(crashed, a, s.t);
                     if k != 0 {
-                        return turned_away(s, before, k, from);
+                        return turned_away(s, before, k, closing, from);
                     }
                     s.crashed = sets::insert(crashed, a);
                     continue;
@@ -203,7 +209,7 @@ pub fn run_bytes(bench: Bench, schedule: &[u8], budget: u32) -> Ended
                     let p = s.processes[a];
                     let k = suspect_check(crashed, a, p.suspected, b);
                     if k != 0 {
-                        return turned_away(s, before, k, from);
+                        return turned_away(s, before, k, closing, from);
                     }
                     s.processes[a] = p.suspect(b);
                     continue;
@@ -215,6 +221,7 @@ pub fn run_bytes(bench: Bench, schedule: &[u8], budget: u32) -> Ended
         bench: s,
         accepted,
         cause: Cause::Empty,
+        closing,
         taken: at,
     }
 }

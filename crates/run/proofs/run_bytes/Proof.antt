@@ -17,7 +17,7 @@ use Rattle.global_data.specs.GlobalData.{noData, rowsOf}
 use Rattle.global_data.proofs.GlobalData as row
 use Rattle.process.specs.Steps.{noProcess, closeOf}
 use Rattle.bench.specs.declared.Event.{Event}
-use Rattle.bench.specs.declared.Event.the-variants.{Arrive}
+use Rattle.bench.specs.declared.Event.the-variants.{Arrive, Close}
 use Rattle.bench.specs.declared.Decoded.{Decoded}
 use Rattle.bench.specs.declared.Decoded.the-variants.{Got}
 use Rattle.bench.specs.State.{processAt, transitAt, withProcess}
@@ -26,6 +26,7 @@ use Rattle.bench.specs.EveryInLaws.{Tested, tested-none, tested-more, tested-al
 use Rattle.bench.specs.SoundLaws.{soundParts, parts-small, sound-off, sound-rows, sound-on}
 use Rattle.bench.specs.RecordLaws.{messageIn}
 use Rattle.bench.specs.Refuse.{refuses}
+use Rattle.bench.specs.Closings.{closingAt, lastOf}
 use Rattle.bench.specs.Calls.{endedOf}
 use Rattle.bench.specs.RunLaws.{run-damaged}
 use Rattle.run.specs.Turns.{Running, running-new, Turn, ends-empty, ends-spent, ends-short, ends-unread}
@@ -34,6 +35,7 @@ use Rattle.run.specs.Turns.{slot-low, row-low, word-low, number-low, mes
 use Rattle.run.specs.Turns.{refuses-start, refuses-send, refuses-arrive, refuses-close, refuses-crash}
 use Rattle.run.specs.Turns.{refuses-suspect, effect-start, effect-crash, effect-suspect, effect-send}
 use Rattle.run.specs.Turns.{effect-receive, effect-adopt, effect-decides, effect-opens, rowsIn, opened-round}
+use Rattle.run.specs.Turns.{kept-start, kept-send, kept-arrive, kept-crash, kept-suspect, closing-new}
 use Rattle.run.proofs.run_bytes.Statement.{statement}
 use Rattle.run.proofs.run_bytes.Tie as tie
 
@@ -44,10 +46,11 @@ abbrev μ-loop : tie.MeasureT-loop
 μ-loop schedule budget s rows₀ k₀ rows k = length (s .sent) - k
 
 abbrev Inv-loop2 : tie.InvT-loop2
-Inv-loop2 schedule budget s₀ rows k at₀ accepted₀ s at accepted = Running budget schedule s₀ s at accepted
+Inv-loop2 schedule budget s₀ rows k at₀ accepted₀ closing₀ s at accepted closing =
+    Running budget schedule s₀ s at accepted closing
 
 abbrev μ-loop2 : tie.MeasureT-loop2
-μ-loop2 schedule budget s₀ rows k at₀ accepted₀ s at accepted = length schedule - at
+μ-loop2 schedule budget s₀ rows k at₀ accepted₀ closing₀ s at accepted closing = length schedule - at
 
 -- ---- a turn, once its record is decoded to d
 abbrev TurnAt : tie.After-decode Inv-loop μ-loop Inv-loop2 μ-loop2 → Decoded → Type 0
@@ -55,7 +58,7 @@ TurnAt c d =
     let m = c .before .before .before .before .before .loop2 in
     let a = c .before .before .before .before .before .before .before .before .before .before .before .before .before
     .before .args in
-    Turn (a .budget) (a .schedule .now) (a .bench) (m .s) (m .at) (m .accepted) d
+    Turn (a .budget) (a .schedule .now) (a .bench) (m .s) (m .at) (m .accepted) (m .closing) d
 
 turn : (c : tie.After-decode Inv-loop μ-loop Inv-loop2 μ-loop2) → TurnAt c (c .decode .result)
 turn c =
@@ -112,7 +115,7 @@ unfolding Low
 low-close c = turn-low (event (c .before .before .before) _ (c .before .e5 .given .1)) _ refl
 
 -- the places of a close: from its eighth row, and from its end, back to where its round is known
-abbrev round8 : tie.After-t173 Inv-loop μ-loop Inv-loop2 μ-loop2
+abbrev round8 : tie.After-t177 Inv-loop μ-loop Inv-loop2 μ-loop2
     → tie.After-round-index2 Inv-loop μ-loop Inv-loop2 μ-loop2
 round8 c = c .before .before .before .before .before .before .before .before
 
@@ -122,10 +125,10 @@ gathered c = round8 (c .before .before .before .before .before .before .before .
 
 close-slot : (c : tie.After-round-index3 Inv-loop μ-loop Inv-loop2 μ-loop2)
     → gathered
-    (c .before .before .before .before) .before .before .before .before .before .e5 .given .0 .0 * 16 + c
+    (c .before .before .before .before .before) .before .before .before .before .before .e5 .given .0 .0 * 16 + c
     .round-index3 .result < 256
 close-slot c =
-    slot-low _ _ (low-close (gathered (c .before .before .before .before) .before .before .before .before))
+    slot-low _ _ (low-close (gathered (c .before .before .before .before .before) .before .before .before .before))
     (c .round-index3 .ensures .1)
 
 low-crash : (c : tie.After-known-told8 Inv-loop μ-loop Inv-loop2 μ-loop2) → c .before .e6 .given .0 .0 < 16
@@ -166,9 +169,19 @@ closed : (c : tie.After-close Inv-loop μ-loop Inv-loop2 μ-loop2)
     let s = r .before .before .before .before .before .before .before .before .before .before .before .before .before
     .before .before .loop2 .s in
     let a = r .before .before .before .before .before .e5 .given .0 .0 in
-    c .close .result ≡ closeOf (s .n) (s .t) a (rowsOf (rowsIn (s .sent) (r .round-index2 .result))) (processAt s a)
+    c .close .result .process ≡ closeOf (s .n) (s .t) a (rowsOf (rowsIn (s .sent) (r .round-index2 .result))) (processAt s a)
 unfolding processAt
-closed c = c .close .ensures
+closed c = c .close .ensures .0
+
+-- and how its round ended
+closing-of : (c : tie.After-close Inv-loop μ-loop Inv-loop2 μ-loop2)
+    → let r = gathered c in
+    let m = r .before .before .before .before .before .before .before .before .before .before .before .before .before
+    .before .before .loop2 in
+    c .close .result .closing ≡ lastOf (m .closing)
+    (closingAt (Close (r .before .before .before .before .before .e5 .given .0 .0)) (m .s))
+unfolding processAt
+closing-of c = closing-new _ _ _ _ _ (gathered c .round-index2 .ensures .0) (c .close .ensures .1)
 
 -- ---- the bench is tested: all but the rows, then the rows one by one
 returns : tie.Need-returns Inv-loop μ-loop Inv-loop2 μ-loop2
@@ -227,12 +240,12 @@ loop2-holds c = running-new _ _ _ (rows-seen (c .before) ∙ not-off _ (c .if2 .
 
 returns-3 : tie.Need-returns-3 Inv-loop μ-loop Inv-loop2 μ-loop2
 unfolding endedOf
-returns-3 c = ends-spent _ _ _ _ _ _ (c .before .before .loop2 .inv) (c .before .loop2-test .taken) (c .if3 .taken)
+returns-3 c = ends-spent _ _ _ _ _ _ _ (c .before .before .loop2 .inv) (c .before .loop2-test .taken) (c .if3 .taken)
 
 returns-4 : tie.Need-returns-4 Inv-loop μ-loop Inv-loop2 μ-loop2
 returns-4 c =
     c .turned-away3 .ensures
-    ∙ (ends-short _ _ _ _ _ _ (c .before .before .before .before .loop2 .inv)
+    ∙ (ends-short _ _ _ _ _ _ _ (c .before .before .before .before .loop2 .inv)
     (c .before .before .before .loop2-test .taken) (c .before .before .if3 .left) (c .before .if4 .taken))
 
 cast-n : tie.Need-cast-n Inv-loop μ-loop Inv-loop2 μ-loop2
@@ -243,7 +256,7 @@ cast-t c = let b = sound-on _ (c .before .before .before .loop2 .inv .sound) in 
 
 returns-5 : tie.Need-returns-5 Inv-loop μ-loop Inv-loop2 μ-loop2
 returns-5 c =
-    c .turned-away4 .ensures ∙ (ends-unread _ _ _ _ _ _ _ (rw (c .before .before .r .given .1) at (turn
+    c .turned-away4 .ensures ∙ (ends-unread _ _ _ _ _ _ _ _ (rw (c .before .before .r .given .1) at (turn
     (c .before .before .before .before))))
 
 -- ---- start
@@ -259,22 +272,24 @@ round-index-requires c κs =
 loop2-again : tie.Need-loop2-again Inv-loop μ-loop Inv-loop2 μ-loop2
 unfolding processAt
 loop2-again c =
-    goes _ _ _ _ _ _ _ (event (c .before .before .before .before .before .before .before .before .before) _
+    goes _ _ _ _ _ _ _ _ (event (c .before .before .before .before .before .before .before .before .before) _
     (c .before .before .before .before .before .before .before .e2 .given .1)) _
     (c .before .before .before .before .start-check .ensures ∙ sym (refuses-start _ _ _))
     (c .before .before .before .if5 .left) _
     (effect-start _ _ _ _ _ (c .round-index .ensures .0) (c .before .before .start .ensures))
+    _ (kept-start _ _ _ _)
 
 -- ---- send
 loop2-again-2 : tie.Need-loop2-again-2 Inv-loop μ-loop Inv-loop2 μ-loop2
 unfolding processAt transitAt
 loop2-again-2 c =
-    goes _ _ _ _ _ _ _ (event (c .before .before .before .before .before .before .before .before .before .before) _
+    goes _ _ _ _ _ _ _ _ (event (c .before .before .before .before .before .before .before .before .before .before) _
     (c .before .before .before .before .before .before .before .before .e3 .given .1)) _
     (c .before .before .before .before .before .message-check .ensures ∙ sym (refuses-send _ _ _))
     (c .before .before .before .before .if6 .left) _
     (effect-send _ _ _ _ _ _ (c .before .before .before .message .ensures) (c .before .send .ensures)
     (c .insert .ensures))
+    _ (kept-send _ _ _ _)
 
 -- ---- arrival
 receive-requires : tie.Need-receive-requires Inv-loop μ-loop Inv-loop2 μ-loop2
@@ -286,7 +301,7 @@ receive-requires c κs =
 loop2-again-3 : tie.Need-loop2-again-3 Inv-loop μ-loop Inv-loop2 μ-loop2
 unfolding processAt transitAt
 loop2-again-3 c =
-    goes _ _ _ _ _ _ _ (event
+    goes _ _ _ _ _ _ _ _ (event
     (c .before .before .before .before .before .before .before .before .before .before .before .before .before) _
     (c .before .before .before .before .before .before .before .before .before .before .before .e4 .given .1)) _
     (number-check (c .before .before .before .before .before .before .before))
@@ -294,6 +309,7 @@ loop2-again-3 c =
     (effect-receive _ _ _ _ _ _ _ _ (c .before .before .m .given .1)
     (c .before .before .before .before .before .before .before .before .before .number .ensures) (c .receive .ensures)
     (c .before .before .before .before .before .remove .ensures))
+    _ (kept-arrive _ _ _ _ _)
 
 adopt-requires : tie.Need-adopt-requires Inv-loop μ-loop Inv-loop2 μ-loop2
 adopt-requires c κs =
@@ -305,7 +321,7 @@ adopt-requires c κs =
 loop2-again-4 : tie.Need-loop2-again-4 Inv-loop μ-loop Inv-loop2 μ-loop2
 unfolding processAt transitAt
 loop2-again-4 c =
-    goes _ _ _ _ _ _ _ (event
+    goes _ _ _ _ _ _ _ _ (event
     (c .before .before .before .before .before .before .before .before .before .before .before .before .before
     .before) _
     (c .before .before .before .before .before .before .before .before .before .before .before .before .e4 .given .1))
@@ -316,6 +332,7 @@ loop2-again-4 c =
     (c .before .before .before .before .before .before .before .before .before .before .number .ensures)
     (c .adopt .ensures)
     (c .before .before .before .before .before .before .remove .ensures))
+    _ (kept-arrive _ _ _ _ _)
 
 -- ---- close: the sixteen rows of the round are read, then the process and perhaps its next row stored
 close-check-requires : tie.Need-close-check-requires Inv-loop μ-loop Inv-loop2 μ-loop2
@@ -345,58 +362,62 @@ close-requires c κs =
 loop2-again-5 : tie.Need-loop2-again-5 Inv-loop μ-loop Inv-loop2 μ-loop2
 unfolding withProcess processAt
 loop2-again-5 c =
-    goes _ _ _ _ _ _ _ (event (gathered
-    (c .before .before) .before .before .before .before .before .before .before) _ (gathered
-    (c .before .before) .before .before .before .before .before .e5 .given .1)) _
-    (gathered (c .before .before) .before .before .close-check .ensures ∙ sym (refuses-close _ _)) (gathered
-    (c .before .before) .before .if8 .left) _
-    (effect-decides _ _ _ _ (gathered (c .before .before) .round-index2 .ensures .0) (closed (c .before .before))
+    goes _ _ _ _ _ _ _ _ (event (gathered
+    (c .before .before .before) .before .before .before .before .before .before .before) _ (gathered
+    (c .before .before .before) .before .before .before .before .before .e5 .given .1)) _
+    (gathered (c .before .before .before) .before .before .close-check .ensures ∙ sym (refuses-close _ _)) (gathered
+    (c .before .before .before) .before .if8 .left) _
+    (effect-decides _ _ _ _ (gathered (c .before .before .before) .round-index2 .ensures .0) (closed (c .before .before .before))
     (sym (c .before .has-decided .ensures) ∙ c .if9 .taken))
+    _ (closing-of (c .before .before .before))
 
 round-index-requires-3 : tie.Need-round-index-requires-3 Inv-loop μ-loop Inv-loop2 μ-loop2
 unfolding processAt
 round-index-requires-3 c κs =
     let w = turn (gathered
-    (c .before .before .before) .before .before .before .before .before .before .before .before .before .before) in
+    (c .before .before .before .before) .before .before .before .before .before .before .before .before .before .before) in
     opened-round (gathered
-    (c .before .before .before) .before .before .before .before .before .before .before .before .before .before
+    (c .before .before .before .before) .before .before .before .before .before .before .before .before .before .before
     .before .before .before .before .before .loop2 .s) _ _ _ (gathered
-    (c .before .before .before) .round-index2 .ensures .0) (closed (c .before .before .before)) (sym
+    (c .before .before .before .before) .round-index2 .ensures .0) (closed (c .before .before .before .before)) (sym
     (c .before .before .has-decided .ensures) ∙ c .before .if9 .left) (turn-sizes w .1) (turn-round w _)
 
 loop2-again-6 : tie.Need-loop2-again-6 Inv-loop μ-loop Inv-loop2 μ-loop2
 unfolding processAt
 loop2-again-6 c =
-    goes _ _ _ _ _ _ _ (event (gathered
-    (c .before .before .before .before) .before .before .before .before .before .before .before) _ (gathered
-    (c .before .before .before .before) .before .before .before .before .before .e5 .given .1)) _
-    (gathered (c .before .before .before .before) .before .before .close-check .ensures ∙ sym (refuses-close _ _))
-    (gathered (c .before .before .before .before) .before .if8 .left) _
-    (effect-opens _ _ _ _ (gathered (c .before .before .before .before) .round-index2 .ensures .0) (closed
-    (c .before .before .before .before)) (sym
+    goes _ _ _ _ _ _ _ _ (event (gathered
+    (c .before .before .before .before .before) .before .before .before .before .before .before .before) _ (gathered
+    (c .before .before .before .before .before) .before .before .before .before .before .e5 .given .1)) _
+    (gathered (c .before .before .before .before .before) .before .before .close-check .ensures ∙ sym (refuses-close _ _))
+    (gathered (c .before .before .before .before .before) .before .if8 .left) _
+    (effect-opens _ _ _ _ (gathered (c .before .before .before .before .before) .round-index2 .ensures .0) (closed
+    (c .before .before .before .before .before)) (sym
     (c .before .before .before .has-decided .ensures) ∙ c .before .before .if9 .left) _ (c .round-index3 .ensures .0))
+    _ (closing-of (c .before .before .before .before .before))
 
 -- ---- crash
 loop2-again-7 : tie.Need-loop2-again-7 Inv-loop μ-loop Inv-loop2 μ-loop2
 loop2-again-7 c =
-    goes _ _ _ _ _ _ _ (event (c .before .before .before .before .before .before) _
+    goes _ _ _ _ _ _ _ _ (event (c .before .before .before .before .before .before) _
     (c .before .before .before .before .e6 .given .1)) _
     (c .before .before .crash-check .ensures ∙ sym (refuses-crash _ _)) (c .before .if10 .left) _
     (effect-crash _ _ _ (c .insert2 .ensures))
+    _ (kept-crash _ _ _)
 
 -- ---- suspicion
 loop2-again-8 : tie.Need-loop2-again-8 Inv-loop μ-loop Inv-loop2 μ-loop2
 unfolding withProcess processAt
 loop2-again-8 c =
-    goes _ _ _ _ _ _ _ (event (c .before .before .before .before .before .before .before) _
+    goes _ _ _ _ _ _ _ _ (event (c .before .before .before .before .before .before .before) _
     (c .before .before .before .before .before .e7 .given .1)) _
     (c .before .before .suspect-check .ensures ∙ sym (refuses-suspect _ _ _)) (c .before .if11 .left) _
     (effect-suspect _ _ _ _ (c .suspect .ensures))
+    _ (kept-suspect _ _ _ _)
 
 -- ---- no bytes are left
 returns-12 : tie.Need-returns-12 Inv-loop μ-loop Inv-loop2 μ-loop2
 unfolding endedOf
-returns-12 c = ends-empty _ _ _ _ _ _ (c .before .loop2 .inv) (c .loop2-test .left)
+returns-12 c = ends-empty _ _ _ _ _ _ _ (c .before .loop2 .inv) (c .loop2-test .left)
 
 pub run-bytes-spec : {M : Type 1} → statement M
 unfolding processAt
@@ -414,7 +435,7 @@ run-bytes-spec =
     (λ c. c .match2 .keys1) (λ c. scaled-fits _ 16 _ (low-start c) (lit< tt)) (λ c. low-start c)
     (λ c κs. low-start (c .before)) (λ c κs. tt)
     (λ c. let arm = c .before .before .before .before .before in
-    c .turned-away5 .ensures ∙ ends-by _ _ _ _ _ _ _ (event (arm .before .before) _ (arm .e2 .given .1)) _
+    c .turned-away5 .ensures ∙ ends-by _ _ _ _ _ _ _ _ (event (arm .before .before) _ (arm .e2 .given .1)) _
     (c .before .before .start-check .ensures ∙ sym (refuses-start _ _ _)) (c .before .if5 .taken))
     start-requires round-index-requires
     (λ c. scaled-fits _ 16 _ (low-start (c .before .before .before .before .before .before)) (lit< tt))
@@ -428,7 +449,7 @@ run-bytes-spec =
     (λ c. c .match2 .keys2) (λ c. scaled-fits _ 16 _ (low-send c .0) (lit< tt)) (λ c. low-send c .0)
     (λ c κs. low-send (c .before)) (λ c κs. tt)
     (λ c. let arm = c .before .before .before .before .before in
-    c .turned-away6 .ensures ∙ ends-by _ _ _ _ _ _ _ (event (arm .before .before) _ (arm .e3 .given .1)) _
+    c .turned-away6 .ensures ∙ ends-by _ _ _ _ _ _ _ _ (event (arm .before .before) _ (arm .e3 .given .1)) _
     (c .before .before .message-check .ensures ∙ sym (refuses-send _ _ _)) (c .before .if6 .taken))
     (λ c. scaled-fits _ 16 _ (low-send (c .before .before .before) .0) (lit< tt)) (λ c κs. tt)
     (λ c. fits-under w64 _ 272 (send-index c) tt) (λ c. scaled-fits _ 272 _ (send-index c) (lit< tt))
@@ -446,7 +467,7 @@ run-bytes-spec =
     (λ c. fits-under w64 _ 272 (arrive-index c) tt) (λ c. scaled-fits _ 272 _ (arrive-index c) (lit< tt))
     (λ c. arrive-index c) (λ c κs. let h = low-arrive (c .before .before) in (h .1, h .1)) (λ c κs. tt)
     (λ c. let arm = c .before .before .before .before .before .before in
-    c .turned-away7 .ensures ∙ ends-by _ _ _ _ _ _ _ (event (arm .before .before) _ (arm .e4 .given .1)) _
+    c .turned-away7 .ensures ∙ ends-by _ _ _ _ _ _ _ _ (event (arm .before .before) _ (arm .e4 .given .1)) _
     (number-check (c .before .before)) (c .before .if7 .taken))
     (λ c κs. low-arrive (c .before .before .before .before) .1)
     (λ c. scaled-fits _ 272 _ (arrive-index (c .before .before .before .before)) (lit< tt))
@@ -471,7 +492,7 @@ run-bytes-spec =
     (λ c. c .match2 .keys4) (λ c. scaled-fits _ 16 _ (low-close c) (lit< tt)) (λ c. low-close c) close-check-requires
     (λ c κs. tt)
     (λ c. let arm = c .before .before .before .before .before in
-    c .turned-away8 .ensures ∙ ends-by _ _ _ _ _ _ _ (event (arm .before .before) _ (arm .e5 .given .1)) _
+    c .turned-away8 .ensures ∙ ends-by _ _ _ _ _ _ _ _ (event (arm .before .before) _ (arm .e5 .given .1)) _
     (c .before .before .close-check .ensures ∙ sym (refuses-close _ _)) (c .before .if8 .taken))
     (λ c κs. close-round c)
     -- the sixteen rows
@@ -510,22 +531,22 @@ run-bytes-spec =
     (λ c. row-bytes (round8 (c .before .before .before .before .before .before .before)) 240 tt)
     (λ c. row-at (round8 (c .before .before .before .before .before .before .before)) 240 tt)
     -- the process, and its next row
-    close-requires (λ c. scaled-fits _ 16 _ (low-close (gathered c .before .before .before .before)) (lit< tt))
-    (λ c. low-close (gathered c .before .before .before .before)) (λ c κs. search needs)
+    close-requires (λ c. scaled-fits _ 16 _ (low-close (gathered (c .before) .before .before .before .before)) (lit< tt))
+    (λ c. low-close (gathered (c .before) .before .before .before .before)) (λ c κs. search needs)
     (λ c. turn-less (turn (gathered
-    (c .before .before) .before .before .before .before .before .before .before .before .before .before)))
+    (c .before .before .before) .before .before .before .before .before .before .before .before .before .before)))
     loop2-again-5 round-index-requires-3
     (λ c. scaled-fits _ 16 _ (low-close (gathered
-    (c .before .before .before .before) .before .before .before .before)) (lit< tt))
+    (c .before .before .before .before .before) .before .before .before .before)) (lit< tt))
     (λ c. fits-under w64 _ 256 (close-slot c) tt) (λ c. scaled-fits _ 256 _ (close-slot c) (lit< tt))
     (λ c. close-slot c)
     (λ c. turn-less (turn (gathered
-    (c .before .before .before .before) .before .before .before .before .before .before .before .before .before
+    (c .before .before .before .before .before) .before .before .before .before .before .before .before .before .before
     .before))) loop2-again-6
     -- crash
     (λ c. c .match2 .keys5) (λ c κs. low-crash c) (λ c κs. tt)
     (λ c. let arm = c .before .before .before .before in
-    c .turned-away9 .ensures ∙ ends-by _ _ _ _ _ _ _ (event (arm .before .before) _ (arm .e6 .given .1)) _
+    c .turned-away9 .ensures ∙ ends-by _ _ _ _ _ _ _ _ (event (arm .before .before) _ (arm .e6 .given .1)) _
     (c .before .before .crash-check .ensures ∙ sym (refuses-crash _ _)) (c .before .if10 .taken))
     (λ c κs. low-crash (c .before .before))
     (λ c. turn-less (turn (c .before .before .before .before .before .before .before .before .before))) loop2-again-7
@@ -533,7 +554,7 @@ run-bytes-spec =
     (λ c. c .match2 .keys6) (λ c. scaled-fits _ 16 _ (low-suspect c .0) (lit< tt)) (λ c. low-suspect c .0)
     (λ c κs. low-suspect (c .before)) (λ c κs. tt)
     (λ c. let arm = c .before .before .before .before .before in
-    c .turned-away10 .ensures ∙ ends-by _ _ _ _ _ _ _ (event (arm .before .before) _ (arm .e7 .given .1)) _
+    c .turned-away10 .ensures ∙ ends-by _ _ _ _ _ _ _ _ (event (arm .before .before) _ (arm .e7 .given .1)) _
     (c .before .before .suspect-check .ensures ∙ sym (refuses-suspect _ _ _)) (c .before .if11 .taken))
     (λ c κs. low-suspect (c .before .before .before) .1)
     (λ c. scaled-fits _ 16 _ (low-suspect (c .before .before .before .before) .0) (lit< tt))

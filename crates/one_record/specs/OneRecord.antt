@@ -27,7 +27,7 @@ answerTo accepted Spent = Accepted
 answerTo accepted (RefusedRun r) = Refused r
 
 unfoldable pub steppedBy : Ended → Stepped
-steppedBy e = record { answer = answerTo (e .accepted) (e .cause); bench = e .bench }
+steppedBy e = record { answer = answerTo (e .accepted) (e .cause); closing = e .closing; bench = e .bench }
 
 unfoldable pub isAccepted : Answer → Bool
 isAccepted Accepted = true

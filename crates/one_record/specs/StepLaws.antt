@@ -11,6 +11,7 @@ use lib.ListN.{length, getD, take, drop, length-drop}
 use lib.Seq.{take-all}
 use Rattle.sets.specs.Truth.{_&&_, same, choose}
 use Rattle.sets.specs.TruthLaws.{Is, on, off, is, choose-on, choose-off, and-off-l, same-on, same-mk, same-off, eq-or}
+use Rattle.process.specs.declared.Closing.the-variants.{None}
 use Rattle.bench.specs.declared.Bench.{Bench}
 use Rattle.bench.specs.declared.Answer.the-variants.{Accepted, Refused}
 use Rattle.bench.specs.declared.Decoded.the-variants.{Got}
@@ -22,6 +23,8 @@ use Rattle.bench.specs.RecordLaws.{decode-from, decode-size}
 use Rattle.bench.specs.Refuse.{refusal, isCrash}
 use Rattle.bench.specs.RefuseLaws.{refusal-damaged, refusal-unread, accepted}
 use Rattle.bench.specs.Effect.{effectOf}
+use Rattle.bench.specs.Closings.{closingIn, lastOf}
+use Rattle.bench.specs.ClosingLaws.{closing-refused, none-last}
 use Rattle.bench.specs.Calls.{refused, answerOf, afterRecord, stepOf}
 use Rattle.bench.specs.Calls.{tallied, crashIn, tallyOf, endedOf, runFrom, runOf}
 use Rattle.one_record.specs.OneRecord.{recordIn, answerTo, steppedBy, isAccepted, crashByte}
@@ -31,21 +34,28 @@ use Rattle.bench.specs.RunLaws.{run-empty, run-refused, run-accepted, run-damag
 module _ (s : Bench) (l : List ℕ) where
   -- a refused record, by its number
   pub step-refused : (k : ℕ) → refusal s l ≡ k → k ≢ 0
-      → record { answer = Refused (refused k); bench = s } ≡ stepOf s l
+      → record { answer = Refused (refused k); closing = None; bench = s } ≡ stepOf s l
   unfolding stepOf answerOf afterRecord
   step-refused k e z =
       let f = same-off k 0 z in
-      rw (e, choose-off (same k 0) Accepted (Refused (refused k)) f, choose-off (same k 0) (effectOf s l) s f)
+      rw (
+        closing-refused s l (rw e z),
+        e,
+        choose-off (same k 0) Accepted (Refused (refused k)) f,
+        choose-off (same k 0) (effectOf s l) s f,
+      )
 
-  pub step-damaged : soundOf s ≡ false → record { answer = Refused (refused 2); bench = s } ≡ stepOf s l
+  pub step-damaged : soundOf s ≡ false → record { answer = Refused (refused 2); closing = None; bench = s } ≡ stepOf s l
   step-damaged d = step-refused 2 (refusal-damaged s l d) (omega arith)
 
-  pub step-size : soundOf s ≡ true → length l ≢ 8 → record { answer = Refused (refused 3); bench = s } ≡ stepOf s l
+  pub step-size : soundOf s ≡ true → length l ≢ 8
+      → record { answer = Refused (refused 3); closing = None; bench = s } ≡ stepOf s l
   step-size h n =
       let r : Refusal = record { number = 3 } in
       step-refused 3 (refusal-unread s l h r (decode-size (s .n) (s .t) l n)) (omega arith)
 
-  step-accepted : refusal s l ≡ 0 → record { answer = Accepted; bench = effectOf s l } ≡ stepOf s l
+  step-accepted : refusal s l ≡ 0
+      → record { answer = Accepted; closing = closingIn s l; bench = effectOf s l } ≡ stepOf s l
   unfolding stepOf answerOf afterRecord
   step-accepted e =
       let o = same-mk 0 0 refl in
@@ -61,32 +71,34 @@ module _ (s : Bench) (l : List ℕ) where
     whole : take 8 l ≡ l
     whole = take-all 8 l (omega arith)
 
-    one : soundOf s ≡ true → steppedBy (runFrom 1 l s 0 0) ≡ stepOf s l
+    one : soundOf s ≡ true → steppedBy (runFrom 1 l s 0 None 0) ≡ stepOf s l
     unfolding steppedBy answerTo endedOf
     one h = ⊎-elim taken turned (eq-or (refusal s (take 8 l)) 0)
       where
         some : length l ≢ 0
         some z = omega arith
 
-        taken : refusal s (take 8 l) ≡ 0 → steppedBy (runFrom 1 l s 0 0) ≡ stepOf s l
+        taken : refusal s (take 8 l) ≡ 0 → steppedBy (runFrom 1 l s 0 None 0) ≡ stepOf s l
         taken z =
             rw (
-              run-accepted l s 0 0 1 some (omega arith) z,
-              run-empty (drop 8 l) (effectOf s (take 8 l)) 1 8 0 (omega (arith, length-drop 8 l)),
+              run-accepted l s 0 None 0 1 some (omega arith) z,
+              run-empty (drop 8 l) (effectOf s (take 8 l)) 1 (lastOf None (closingIn s (take 8 l))) 8 0
+                  (omega (arith, length-drop 8 l)),
               whole,
+              none-last (closingIn s l),
             )
             (rw (choose-off (same 1 0) (Refused (refused 3)) Accepted (same-off 1 0 (omega arith)))
             (step-accepted (rw whole at z)))
 
-        turned : refusal s (take 8 l) ≢ 0 → steppedBy (runFrom 1 l s 0 0) ≡ stepOf s l
+        turned : refusal s (take 8 l) ≢ 0 → steppedBy (runFrom 1 l s 0 None 0) ≡ stepOf s l
         turned z =
-            rw (run-refused l s 0 0 1 some (omega arith) z, whole) (step-refused (refusal s l) refl (rw whole at z))
+            rw (run-refused l s 0 None 0 1 some (omega arith) z, whole) (step-refused (refusal s l) refl (rw whole at z))
 
   -- any other number of bytes
-  none : length l ≢ 8 → soundOf s ≡ true → steppedBy (runFrom 1 [] s 0 0) ≡ stepOf s l
+  none : length l ≢ 8 → soundOf s ≡ true → steppedBy (runFrom 1 [] s 0 None 0) ≡ stepOf s l
   unfolding steppedBy answerTo endedOf
   none n h =
-      rw (run-empty [] s 0 0 1 refl, choose-on (same 0 0) (Refused (refused 3)) Accepted (same-mk 0 0 refl))
+      rw (run-empty [] s 0 None 0 1 refl, choose-on (same 0 0) (Refused (refused 3)) Accepted (same-mk 0 0 refl))
       (step-size h n)
 
   pub step-run : steppedBy (runOf 1 (recordIn l) s) ≡ stepOf s l

@@ -49,9 +49,11 @@ pub fn step_bytes(b: Bench, rec: &[u8]) -> Stepped
 {
     let e = run_bytes(b, record_in(rec), 1);
     let cause = e.cause;
+    let closing = e.closing;
     let bench = e.bench;
     Stepped {
         answer: answer_to(e.accepted, cause),
+        closing,
         bench,
     }
 }

@@ -2,16 +2,18 @@
 -- take the opened one over the history so far, and gives what the rules give there. A run by induction on its budget,
 -- the list by induction on its calls.
 use mathlib.Core.Path.{_≡_, refl, sym, ap, ap₂, _∙_}
-use mathlib.Core.List.{List, [], _∷_, _++_}
+use mathlib.Core.List.{List, [], _∷_, _++_, append-assoc, append-nil}
 use mathlib.Core.Bool.{Bool, true, false}
 use mathlib.Core.Logic.{_≢_}
 use Prim.Native.Nat.{ℕ, zero, suc, _+_, _-_, _*_}
 use native.Mathlib.Omega.{arith}
 use lib.ListN.{length, take, drop, length-append}
-use lib.Seq.{drop-drop}
+use lib.Seq.{drop-drop, drop-append-seam}
 use Rattle.sets.specs.Truth.{same, choose}
 use Rattle.sets.specs.TruthLaws.{Is, on, off, is, choose-on, choose-off, same-on}
 use Rattle.sets.specs.TruthLaws.{same-not, same-mk, same-off, same-refl, both-ways}
+use Rattle.process.specs.declared.Closing.{Closing}
+use Rattle.process.specs.declared.Closing.the-variants.{None}
 use Rattle.bench.specs.declared.Bench.{Bench}
 use Rattle.bench.specs.declared.Opened.{Opened}
 use Rattle.bench.specs.declared.Ended.{Ended}
@@ -28,11 +30,14 @@ use Rattle.bench.specs.RefuseLaws.{Accepts, accepted, accepted-effect, refused-
 use Rattle.bench.specs.RunLaws.{run-sound}
 use Rattle.bench.specs.SoundLaws.{sound-step, sound-opened}
 use Rattle.bench.specs.Effect.{effect, effectOf}
-use Rattle.bench.specs.Calls.{refused, afterRecord, openOf, stepOf, endedOf, runFrom}
-use Rattle.agreement.specs.statement.History.{Call, one, run, ran, afterCall, givenBy, afterCallsFrom}
+use Rattle.bench.specs.Closings.{closingAt, closingIn, lastOf}
+use Rattle.bench.specs.ClosingLaws.{closing-event, closing-refused, last-none, none-last, last-last}
+use Rattle.bench.specs.Calls.{refused, answerOf, afterRecord, openOf, stepOf, tallyOf, endedOf, runFrom}
+use Rattle.agreement.specs.statement.History.{Call, one, run, stepped, ran, afterCall, givenBy, afterCallsFrom}
 use Rattle.agreement.specs.statement.History.{answersFrom, afterCalls, answers, afterEvents, afterHistory}
 use Rattle.agreement.specs.statement.History.{eventIn, refusedAfter, addRecord, addRun, addCall}
-use Rattle.agreement.specs.statement.History.{historyFrom, history, causeAfter, ruledBy, ruledFrom, ruled}
+use Rattle.agreement.specs.statement.History.{historyFrom, history, causeAfter, closingFrom, closingAdded}
+use Rattle.agreement.specs.statement.History.{ruledBy, ruledFrom, ruled}
 use Rattle.agreement.specs.histories.Append.{over-append, over-sizes}
 
 -- ---- one more record at the end of a history
@@ -66,6 +71,7 @@ record Added (n t : ℕ) (h : List Event) (bytes : List ℕ) : Type 0 where
   next : Next n t h event
   adds : addRecord n t h bytes ≡ h ++ (event ∷ [])
   bench : effectOf (afterHistory n t h) bytes ≡ afterHistory n t (addRecord n t h bytes)
+  closing : closingIn (afterHistory n t h) bytes ≡ closingAt event (afterHistory n t h)
 
 added : (n t : ℕ) (h : List Event) (bytes : List ℕ) → refusal (afterHistory n t h) bytes ≡ 0 → Added n t h bytes
 unfolding addRecord refusedAfter eventIn
@@ -79,6 +85,7 @@ added n t h bytes z = record {
   };
   adds = adds;
   bench = sym (accepted-effect s bytes z) ∙ A .effects ∙ sym (reached-next n t h e) ∙ ap (afterHistory n t) (sym adds);
+  closing = closing-event s bytes e z (A .decoded);
 }
   where
     s : Bench
@@ -106,27 +113,34 @@ unadded n t h bytes z = choose-off _ _ _ (same-off _ 0 z)
 
 -- ---- a run
 -- `more` records are accepted and added, and the run ends as the rules say there
-record Ran (n t budget : ℕ) (h : List Event) (l : List ℕ) (soFar taken : ℕ) (h′ : List Event)
+record Ran (n t budget : ℕ) (h : List Event) (l : List ℕ) (soFar : ℕ) (c : Closing) (taken : ℕ) (h′ : List Event)
     (E : Ended) : Type 0 where
   more : ℕ
+  events : List Event
+  grows : h′ ≡ h ++ events
   grown : length h′ ≡ length h + more
   bench : E .bench ≡ afterHistory n t h′
   accepted-is : E .accepted ≡ soFar + more
   taken-is : E .taken ≡ taken + 8 * more
+  closing-is : E .closing ≡ lastOf c (closingFrom (afterHistory n t h) events)
   cause : E .cause ≡ causeAfter n t h′ budget more (drop (8 * more) l)
 
 module _ (n t : ℕ) where
   -- a run that ends at once
-  ends : (budget : ℕ) (h : List Event) (l : List ℕ) (soFar taken : ℕ) (c : Cause) → c ≡ causeAfter n t h budget 0 l
-      → Ran n t budget h l soFar taken h (endedOf (afterHistory n t h) soFar c taken)
-  unfolding endedOf
-  ends budget h l soFar taken c e =
+  ends : (budget : ℕ) (h : List Event) (l : List ℕ) (soFar : ℕ) (c : Closing) (taken : ℕ) (x : Cause)
+      → x ≡ causeAfter n t h budget 0 l
+      → Ran n t budget h l soFar c taken h (endedOf (afterHistory n t h) soFar x c taken)
+  unfolding endedOf closingFrom
+  ends budget h l soFar c taken x e =
       record {
         more = 0;
+        events = [];
+        grows = sym (append-nil h);
         grown = omega arith;
         bench = refl;
         accepted-is = omega arith;
         taken-is = omega arith;
+        closing-is = sym (last-none c);
         cause = e;
       }
 
@@ -139,16 +153,22 @@ module _ (n t : ℕ) where
       (both-ways (same m budget) (same (suc m) (suc budget)) (λ e. same-mk _ _ (ap suc (same-on m budget e)))
       (λ e. same-mk m budget (omega (arith, same-on (suc m) (suc budget) e))))
 
-  -- a run that accepts a record and goes on
-  goes-on : (budget : ℕ) (h h₁ : List Event) (l : List ℕ) (soFar taken : ℕ) (h′ : List Event) (E : Ended)
-      → length h₁ ≡ suc (length h)
-      → Ran n t budget h₁ (drop 8 l) (soFar + 1) (taken + 8) h′ E → Ran n t (suc budget) h l soFar taken h′ E
-  goes-on budget h h₁ l soFar taken h′ E g R = record {
+  -- a run that accepts the record of e and goes on
+  goes-on : (budget : ℕ) (h h₁ : List Event) (e : Event) (l : List ℕ) (soFar : ℕ) (c d : Closing) (taken : ℕ)
+      (h′ : List Event) (E : Ended) → h₁ ≡ h ++ (e ∷ []) → d ≡ lastOf c (closingAt e (afterHistory n t h))
+      → Ran n t budget h₁ (drop 8 l) (soFar + 1) d (taken + 8) h′ E → Ran n t (suc budget) h l soFar c taken h′ E
+  unfolding closingFrom
+  goes-on budget h h₁ e l soFar c d taken h′ E g f R = record {
     more = suc (R .more);
-    grown = omega (arith, R .grown);
+    events = e ∷ R .events;
+    grows = R .grows ∙ rw g (append-assoc h (e ∷ []) (R .events));
+    grown = omega (arith, R .grown, ap length g, length-append h (e ∷ []));
     bench = R .bench;
     accepted-is = omega (arith, R .accepted-is);
     taken-is = omega (arith, R .taken-is);
+    closing-is =
+        R .closing-is ∙ rw (f, g, reached-next n t h e)
+        (last-last c (closingAt e (afterHistory n t h)) (closingFrom (effect e (afterHistory n t h)) (R .events)));
     cause =
         R .cause ∙ cause-suc h′ budget (R .more) (drop (8 * R .more) (drop 8 l))
         ∙ ap (causeAfter n t h′ (suc budget) (suc (R .more))) rest;
@@ -159,14 +179,15 @@ module _ (n t : ℕ) where
           drop-drop (8 * R .more) 8 l
           ∙ (let e : 8 + 8 * R .more ≡ 8 * suc (R .more) = omega arith in ap (λ (k : ℕ). drop k l) e)
 
-  runs : (budget : ℕ) (h : List Event) (l : List ℕ) (soFar taken : ℕ)
-      → Ran n t budget h l soFar taken (addRun n t budget h l) (runFrom budget l (afterHistory n t h) soFar taken)
+  runs : (budget : ℕ) (h : List Event) (l : List ℕ) (soFar : ℕ) (c : Closing) (taken : ℕ)
+      → Ran n t budget h l soFar c taken (addRun n t budget h l) (runFrom budget l (afterHistory n t h) soFar c taken)
   unfolding addRun runFrom causeAfter refusedAfter choose
-  runs zero h l soFar taken =
-      ends 0 h l soFar taken (choose (same (length l) 0) Empty Spent)
+  runs zero h l soFar c taken =
+      ends 0 h l soFar c taken (choose (same (length l) 0) Empty Spent)
       (ap (choose (same (length l) 0) Empty) (sym (choose-on _ _ _ (same-refl 0))))
-  runs (suc budget) h l soFar taken =
-      go (is (same (length l) 0)) (is (same (refusal s r) 0)) (λ g. runs budget g (drop 8 l) (soFar + 1) (taken + 8))
+  runs (suc budget) h l soFar c taken =
+      go (is (same (length l) 0)) (is (same (refusal s r) 0))
+      (λ g. runs budget g (drop 8 l) (soFar + 1) d (taken + 8))
     where
       s : Bench
       s = afterHistory n t h
@@ -174,20 +195,24 @@ module _ (n t : ℕ) where
       r : List ℕ
       r = take 8 l
 
+      d : Closing
+      d = lastOf c (closingIn s r)
+
       go : Is (same (length l) 0) → Is (same (refusal s r) 0)
           → ((g : List Event)
-          → Ran n t budget g (drop 8 l) (soFar + 1) (taken + 8) (addRun n t budget g (drop 8 l))
-          (runFrom budget (drop 8 l) (afterHistory n t g) (soFar + 1) (taken + 8)))
-          → Ran n t (suc budget) h l soFar taken (addRun n t (suc budget) h l) (runFrom (suc budget) l s soFar taken)
-      go (on z) w ih = rw z (ends (suc budget) h l soFar taken Empty (sym (choose-on _ _ _ z)))
+          → Ran n t budget g (drop 8 l) (soFar + 1) d (taken + 8) (addRun n t budget g (drop 8 l))
+          (runFrom budget (drop 8 l) (afterHistory n t g) (soFar + 1) d (taken + 8)))
+          → Ran n t (suc budget) h l soFar c taken (addRun n t (suc budget) h l)
+          (runFrom (suc budget) l s soFar c taken)
+      go (on z) w ih = rw z (ends (suc budget) h l soFar c taken Empty (sym (choose-on _ _ _ z)))
       go (off z) (on w) ih =
           let A = added n t h r (same-on (refusal s r) 0 w) in
           rw (z, w, A .bench)
-          (goes-on budget h (addRecord n t h r) l soFar taken _ _
-          (ap length (A .adds) ∙ length-append h (A .event ∷ []) ∙ omega arith) (ih (addRecord n t h r)))
+          (goes-on budget h (addRecord n t h r) (A .event) l soFar c d taken _ _ (A .adds) (ap (lastOf c) (A .closing))
+          (ih (addRecord n t h r)))
       go (off z) (off w) ih =
           rw (z, w)
-          (ends (suc budget) h l soFar taken (Refusing (refused (refusal s r)))
+          (ends (suc budget) h l soFar c taken (Refusing (refused (refusal s r)))
           (sym (choose-off _ _ _ z ∙ choose-off _ _ _ (same-off 0 (suc budget) (omega arith)))))
 
   -- ---- induction along a history: what the empty one has and every accepted record keeps
@@ -239,27 +264,54 @@ module _ (n t : ℕ) where
           let ne = same-not _ 0 z in
           refused-keeps (afterHistory n t h) bytes ne ∙ ap (afterHistory n t) (sym (unadded n t h bytes ne))
   bench-call h (run l budget) o =
-      ap (λ (E : Ended). E .bench) (run-sound budget l (afterHistory n t h) o) ∙ runs budget h l 0 0 .bench
+      ap (λ (E : Ended). E .bench) (run-sound budget l (afterHistory n t h) o) ∙ runs budget h l 0 None 0 .bench
+
+  -- how the last round ended among the events that a call added
+  closing-added : (h h′ events : List Event) → h′ ≡ h ++ events
+      → closingFrom (afterHistory n t h) events ≡ closingAdded n t h h′
+  unfolding closingAdded
+  closing-added h h′ events e = ap (closingFrom (afterHistory n t h)) (sym (rw e (drop-append-seam h events)))
+
+  closing-one : (h : List Event) (bytes : List ℕ)
+      → closingIn (afterHistory n t h) bytes ≡ closingAdded n t h (addRecord n t h bytes)
+  unfolding closingFrom
+  closing-one h bytes = go (is (same (refusal (afterHistory n t h) bytes) 0))
+    where
+      go : Is (same (refusal (afterHistory n t h) bytes) 0)
+          → closingIn (afterHistory n t h) bytes ≡ closingAdded n t h (addRecord n t h bytes)
+      go (on z) =
+          let A = added n t h bytes (same-on _ 0 z) in
+          A .closing ∙ sym (last-none _) ∙ closing-added h _ (A .event ∷ []) (A .adds)
+      go (off z) =
+          let ne = same-not _ 0 z in
+          closing-refused (afterHistory n t h) bytes ne
+          ∙ closing-added h _ [] (unadded n t h bytes ne ∙ sym (append-nil h))
 
   given-call : (h : List Event) (c : Call) → soundOf (afterHistory n t h) ≡ true
       → givenBy c (afterHistory n t h) ≡ ruledBy n t h c
   unfolding givenBy ruledBy refusedAfter stepOf
-  given-call h (one bytes tally) o = refl
+  given-call h (one bytes tally) o =
+      ap (stepped (answerOf (refusal (afterHistory n t h) bytes)) (tallyOf (afterHistory n t h) bytes tally))
+      (closing-one h bytes)
   given-call h (run l budget) o = rw (run-sound budget l (afterHistory n t h) o) go
     where
-      R : Ran n t budget h l 0 0 (addRun n t budget h l) (runFrom budget l (afterHistory n t h) 0 0)
-      R = runs budget h l 0 0
+      E : Ended
+      E = runFrom budget l (afterHistory n t h) 0 None 0
+
+      R : Ran n t budget h l 0 None 0 (addRun n t budget h l) E
+      R = runs budget h l 0 None 0
 
       m : R .more ≡ length (addRun n t budget h l) - length h
       m = omega (arith, R .grown)
 
-      go : ran (runFrom budget l (afterHistory n t h) 0 0 .accepted) (runFrom budget l (afterHistory n t h) 0 0 .cause)
-          (drop (runFrom budget l (afterHistory n t h) 0 0 .taken) l)
-          ≡ ruledBy n t h (run l budget)
+      closing : E .closing ≡ closingAdded n t h (addRun n t budget h l)
+      closing = R .closing-is ∙ none-last _ ∙ closing-added h _ (R .events) (R .grows)
+
+      go : ran (E .accepted) (E .cause) (E .closing) (drop (E .taken) l) ≡ ruledBy n t h (run l budget)
       go =
-          let a : runFrom budget l (afterHistory n t h) 0 0 .accepted ≡ R .more = omega (arith, R .accepted-is) in
-          let b : runFrom budget l (afterHistory n t h) 0 0 .taken ≡ 8 * R .more = omega (arith, R .taken-is) in
-          rw (← m, a, b, R .cause)
+          let a : E .accepted ≡ R .more = omega (arith, R .accepted-is) in
+          let b : E .taken ≡ 8 * R .more = omega (arith, R .taken-is) in
+          rw (← m, a, b, R .cause, closing)
 
   pub record Replayed (h : List Event) (calls : List Call) : Type 0 where
     pub bench : afterCallsFrom (afterHistory n t h) calls ≡ afterHistory n t (historyFrom n t h calls)

@@ -8,6 +8,8 @@ use Rattle.sets.specs.Truth.{_&&_, _||_, same, bit, choose}
 use Rattle.global_data.specs.declared.GlobalData.{GlobalData}
 use Rattle.global_data.specs.declared.Entry.{Entry}
 use Rattle.global_data.specs.declared.Entry.the-variants.{Absent, Value}
+use Rattle.process.specs.declared.Closing.{Closing}
+use Rattle.process.specs.declared.Closing.the-variants.{None}
 use Rattle.process.specs.Steps.{takesPart, filledOf, decidesOf}
 use Rattle.bench.specs.declared.Bench.{Bench}
 use Rattle.bench.specs.declared.Counters.{Counters}
@@ -23,6 +25,7 @@ use Rattle.bench.specs.State.{processAt, openedOf}
 use Rattle.bench.specs.Record.{decodeOf}
 use Rattle.bench.specs.Refuse.{actor, isCrash, refusal}
 use Rattle.bench.specs.Effect.{effect, rowsAt}
+use Rattle.bench.specs.Closings.{closingAt, lastOf}
 use Rattle.bench.specs.Calls.{refused, answerOf, openOf, stepOf, tallyOf, runOf}
 
 -- ---- the calls of a list: one record, with any bytes and any tally, or a run, with any bytes and any budget
@@ -30,11 +33,11 @@ pub data Call : Type 0 where
   one : List ℕ → Counters → Call
   run : List ℕ → ℕ → Call
 
--- what a call hands back besides the bench: the answer and the tally, or how many were accepted,
--- the cause and the bytes not taken
+-- what a call hands back besides the bench: the answer, the tally and how the round ended, or how many were
+-- accepted, the cause, how the last round ended that it closed, and the bytes not taken
 pub data Given : Type 0 where
-  stepped : Answer → Counters → Given
-  ran : ℕ → Cause → List ℕ → Given
+  stepped : Answer → Counters → Closing → Given
+  ran : ℕ → Cause → Closing → List ℕ → Given
 
 -- ---- the calls as the contracts have them, one after the other from the opened bench
 unfoldable pub afterCall : Call → Bench → Bench
@@ -42,10 +45,10 @@ afterCall (one bytes tally) s = stepOf s bytes .bench
 afterCall (run bytes budget) s = runOf budget bytes s .bench
 
 unfoldable pub givenBy : Call → Bench → Given
-givenBy (one bytes tally) s = stepped (stepOf s bytes .answer) (tallyOf s bytes tally)
+givenBy (one bytes tally) s = stepped (stepOf s bytes .answer) (tallyOf s bytes tally) (stepOf s bytes .closing)
 givenBy (run bytes budget) s =
     let e = runOf budget bytes s in
-    ran (e .accepted) (e .cause) (drop (e .taken) bytes)
+    ran (e .accepted) (e .cause) (e .closing) (drop (e .taken) bytes)
 
 unfoldable pub afterCallsFrom : Bench → List Call → Bench
 afterCallsFrom s [] = s
@@ -111,14 +114,24 @@ causeAfter n t h budget taken rest =
     choose (same (length rest) 0) Empty
     (choose (same taken budget) Spent (Refusing (refused (refusedAfter n t h (take 8 rest)))))
 
+-- how the last close among some records ended, on the bench before them; none where there is none
+unfoldable pub closingFrom : Bench → List Event → Closing
+closingFrom s [] = None
+closingFrom s (e ∷ h) = lastOf (closingAt e s) (closingFrom (effect e s) h)
+
+-- of those that a call added to the history h, which is then h′
+unfoldable pub closingAdded : ℕ → ℕ → List Event → List Event → Closing
+closingAdded n t h h′ = closingFrom (afterHistory n t h) (drop (length h) h′)
+
 unfoldable pub ruledBy : ℕ → ℕ → List Event → Call → Given
 ruledBy n t h (one bytes tally) =
     stepped (answerOf (refusedAfter n t h bytes)) (tallyOf (afterHistory n t h) bytes tally)
+    (closingAdded n t h (addRecord n t h bytes))
 ruledBy n t h (run bytes budget) =
     let h′ = addRun n t budget h bytes in
     let taken = length h′ - length h in
     let rest = drop (8 * taken) bytes in
-    ran taken (causeAfter n t h′ budget taken rest) rest
+    ran taken (causeAfter n t h′ budget taken rest) (closingAdded n t h h′) rest
 
 unfoldable pub ruledFrom : ℕ → ℕ → List Event → List Call → List Given
 ruledFrom n t h [] = []

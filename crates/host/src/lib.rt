@@ -7,6 +7,7 @@ use bench::Counters;
 use bench::Stepped;
 use one_record::step_counted;
 use one_record::tail;
+use process::Closing;
 use run::run_bytes;
 ghost use mathlib.Core.Path.{_≡_};
 ghost use lib.ListN.{drop};
@@ -17,6 +18,7 @@ pub struct Ran<'a> {
     pub bench: Bench,
     pub accepted: u32,
     pub cause: Cause,
+    pub closing: Closing,
     pub rest: &'a [u8],
 }
 
@@ -25,6 +27,7 @@ pub fn run<'a>(b: Bench, schedule: &'a [u8], budget: u32) -> Ran<'a>
     ensures { λ r. ⌜ (r .bench ≡ runOf budget (now (schedule .entry)) b .bench)
         × (r .accepted ≡ runOf budget (now (schedule .entry)) b .accepted)
         × (r .cause ≡ runOf budget (now (schedule .entry)) b .cause)
+        × (r .closing ≡ runOf budget (now (schedule .entry)) b .closing)
         × (now (r .rest) ≡ drop (runOf budget (now (schedule .entry)) b .taken) (now (schedule .entry))) ⌝ }
 {
     let e = run_bytes(b, schedule, budget);
@@ -33,6 +36,7 @@ pub fn run<'a>(b: Bench, schedule: &'a [u8], budget: u32) -> Ran<'a>
         bench: e.bench,
         accepted: e.accepted,
         cause: e.cause,
+        closing: e.closing,
         rest,
     }
 }

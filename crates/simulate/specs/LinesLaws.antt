@@ -11,6 +11,8 @@ use native.Mathlib.Omega.{arith}
 use lib.ListN.{length, take, drop, length-append, length-drop}
 use lib.Seq.{drop-drop, drop-at, take-all, take-append-le, drop-append-le}
 use Rattle.sets.specs.TruthLaws.{Is, on, off, is}
+use Rattle.process.specs.declared.Closing.{Closing}
+use Rattle.process.specs.declared.Closing.the-variants.{None}
 use Rattle.bench.specs.declared.Bench.{Bench}
 use Rattle.bench.specs.declared.Ended.{Ended}
 use Rattle.bench.specs.declared.Cause.{Cause}
@@ -20,7 +22,7 @@ use Rattle.bench.specs.Refuse.{refusal}
 use Rattle.bench.specs.RefuseLaws.{refusal-damaged, refused-keeps}
 use Rattle.bench.specs.Calls.{refused, afterRecord, endedOf, runFrom, runOf}
 use Rattle.sets.specs.Lists.{joined}
-use Rattle.bench.specs.RunLaws.{run-damaged, run-sound, run-refused, Why, Runs, runs, sound-steps}
+use Rattle.bench.specs.RunLaws.{run-damaged, run-sound, run-refused, Why, closingTo, Runs, runs, sound-steps}
 use Rattle.bench.specs.OneByOne.{restOf, recordAt, steps}
 use Rattle.text.specs.Text.{lineOf, processesText}
 use Rattle.simulate.specs.Output.{recordsIn, answerAt, lineAt, linesOf, afterAll}
@@ -80,14 +82,14 @@ rest-length i l = length-drop (8 * i) l
 
 -- ---- a run of some records with some budget, damaged or not
 run-some : (budget : ℕ) (l : List ℕ) (s : Bench) → length l ≢ 0 → budget ≢ 0
-    → runOf budget l s ≡ runFrom budget l s 0 0
+    → runOf budget l s ≡ runFrom budget l s 0 None 0
 run-some budget l s h b = go (is (soundOf s))
   where
-    go : Is (soundOf s) → runOf budget l s ≡ runFrom budget l s 0 0
+    go : Is (soundOf s) → runOf budget l s ≡ runFrom budget l s 0 None 0
     go (on e) = run-sound budget l s e
     go (off e) =
         let two = refusal-damaged s (take 8 l) e in
-        run-damaged budget l s e ∙ sym (run-refused l s 0 0 budget h b (λ z. omega arith) ∙ rw two)
+        run-damaged budget l s e ∙ sym (run-refused l s 0 None 0 budget h b (λ z. omega arith) ∙ rw two)
 
 -- the line of what a run refused, record k, and how many that is
 unfoldable pub causeText : ℕ → Cause → List ℕ
@@ -130,10 +132,11 @@ module _ (b : Bench) (first : ℕ) (l : List ℕ) (i : ℕ) where
       line j z = let e : first + (i + j) ≡ first + i + j = omega arith in rw (z, e)
 
   -- no record is refused after them
-  module _ (k t : ℕ) (h : (j : ℕ) → j < k → refusal (steps j (steps i b l) (restOf i l)) (recordAt j (restOf i l)) ≡ 0)
+  module _ (k t : ℕ) (x : Closing)
+      (h : (j : ℕ) → j < k → refusal (steps j (steps i b l) (restOf i l)) (recordAt j (restOf i l)) ≡ 0)
       (w : 8 * k ≤ length (restOf i l)) (m : i < recordsIn l) where
     taken-all : (c : Cause) → refusedIn c ≡ 0 → ((n : ℕ) → causeText n c ≡ []) → 1 ≤ k
-        → Taken b first l i (endedOf (steps k (steps i b l) (restOf i l)) k c t)
+        → Taken b first l i (endedOf (steps k (steps i b l) (restOf i l)) k c x t)
     unfolding endedOf recordsIn
     taken-all c z e g =
         let y : i + (k + refusedIn c) ≡ i + k = omega arith in
@@ -150,11 +153,11 @@ module _ (b : Bench) (first : ℕ) (l : List ℕ) (i : ℕ) where
     -- the next one is
     taken-refused : (r : ℕ) → length (restOf k (restOf i l)) ≢ 0
         → refusal (steps k (steps i b l) (restOf i l)) (take 8 (restOf k (restOf i l))) ≡ r → r ≢ 0
-        → Taken b first l i (endedOf (steps k (steps i b l) (restOf i l)) k (Refused (refused r)) t)
+        → Taken b first l i (endedOf (steps k (steps i b l) (restOf i l)) k (Refused (refused r)) x t)
     unfolding endedOf recordsIn refusedIn causeText joined lineAt recordAt steps
     taken-refused r g e z =
         let y : i + (k + 1) ≡ suc (i + k) = omega arith in
-        let x : first + (i + k) ≡ first + i + k = omega arith in
+        let p : first + (i + k) ≡ first + i + k = omega arith in
         let keeps =
         refused-keeps (steps k (steps i b l) (restOf i l)) (take 8 (restOf k (restOf i l))) (λ q. z (sym e ∙ q)) in
         record {
@@ -162,7 +165,7 @@ module _ (b : Bench) (first : ℕ) (l : List ℕ) (i : ℕ) where
           some = omega arith;
           state = sym (steps-add i (k + 1) b l ∙ steps-add k 1 (steps i b l) (restOf i l) ∙ keeps);
           text =
-              rw (y, answer-add i k b l, e, x, accepted-lines k h)
+              rw (y, answer-add i k b l, e, p, accepted-lines k h)
               (append-assoc (joined i (lineAt b first l)) (acceptedText (first + i) k) (lineOf (first + i + k) r));
         }
 
@@ -171,21 +174,22 @@ module _ (b : Bench) (first : ℕ) (l : List ℕ) (i : ℕ) where
   unfolding recordsIn Why refusedIn causeText
   taken budget o m =
       let some : length (restOf i l) ≢ 0 = λ z. omega (arith, rest-length i l) in
-      let w = runs budget (restOf i l) (steps i b l) 0 0 in
+      let w = runs budget (restOf i l) (steps i b l) 0 None 0 in
       let z : 0 + w .k ≡ w .k = omega arith in
       rw (run-some budget (restOf i l) (steps i b l) some (λ z. omega arith), w .gives, z)
       (go some w (w .cause) (w .why))
     where
-      go : length (restOf i l) ≢ 0 → (w : Runs budget (restOf i l) (steps i b l) 0 0) (c : Cause)
+      go : length (restOf i l) ≢ 0 → (w : Runs budget (restOf i l) (steps i b l) 0 None 0) (c : Cause)
           → Why (budget - w .k) (restOf (w .k) (restOf i l)) (steps (w .k) (steps i b l) (restOf i l)) c
-          → Taken b first l i (endedOf (steps (w .k) (steps i b l) (restOf i l)) (w .k) c (0 + 8 * w .k))
+          → Taken b first l i (endedOf (steps (w .k) (steps i b l) (restOf i l)) (w .k) c
+          (closingTo (w .k) (steps i b l) (restOf i l) None) (0 + 8 * w .k))
       go some w Empty y =
-          taken-all (w .k) _ (w .each-accepted) (w .within-bytes) m Empty refl (λ n. refl)
+          taken-all (w .k) _ _ (w .each-accepted) (w .within-bytes) m Empty refl (λ n. refl)
           (omega (arith, rest-length (w .k) (restOf i l), rest-length i l))
       go some w Spent y =
-          taken-all (w .k) _ (w .each-accepted) (w .within-bytes) m Spent refl (λ n. refl) (omega arith)
+          taken-all (w .k) _ _ (w .each-accepted) (w .within-bytes) m Spent refl (λ n. refl) (omega arith)
       go some w (Refused r) y =
-          taken-refused (w .k) _ (w .each-accepted) (w .within-bytes) m (r .number) (y .0) (y .2) (y .3)
+          taken-refused (w .k) _ _ (w .each-accepted) (w .within-bytes) m (r .number) (y .0) (y .2) (y .3)
 
   -- the same, as the code takes the rest of the records
   pub taken-part : (budget : ℕ) (s : Bench) (e : Ended) → 0 < budget → i < recordsIn l → s ≡ steps i b l

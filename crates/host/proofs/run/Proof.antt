@@ -53,6 +53,8 @@ use Rattle.bench.proofs.Bench as bench
 use Rattle.bench.proofs.Bench.Laws as bench-laws
 use Rattle.bench.proofs.Cause as cause
 use Rattle.bench.proofs.Cause.Laws as cause-laws
+use Rattle.process.proofs.Closing as closing
+use Rattle.process.proofs.Closing.Laws as closing-laws
 use Rattle.bench.proofs.Ended as ended
 use Rattle.bench.proofs.Ended.Laws as ended-laws
 use Rattle.host.proofs.Ran as ran
@@ -184,13 +186,13 @@ module _ {M : Type 1} (𝓤 : URA M) (H : Heap 𝓤) (A : Atoms 𝓤) (W : Given
 
   -- ---- the struct that is made of both
   abbrev made : Ended → RefT (List ℕ) → Ran
-  made e t = record { bench = e .bench; accepted = e .accepted; cause = e .cause; rest = t }
+  made e t = record { bench = e .bench; accepted = e .accepted; cause = e .cause; closing = e .closing; rest = t }
 
   is-made : (e : Ended) (t : RefT (List ℕ)) → Is ended.the-row e (endedVal e ∷ []) → Is Bytes-of t (slice-vals t)
       → Is (ran.the-row α) (made e t) (LL.vals R R-laws (made e t))
   is-made e t isE isT =
       let fs = LL.owed ended.the-type ended-laws.the-laws e _ isE in
-      LL.owes R R-laws (made e t) (fs .0, (fs .1 .0, (fs .1 .1 .0, (isT, tt))))
+      LL.owes R R-laws (made e t) (fs .0, (fs .1 .0, (fs .1 .1 .0, (fs .1 .1 .1 .0, (isT, tt)))))
 
   at-exit : (e : Ended) (t : RefT (List ℕ)) → e ≡ meant → now t ≡ drop (e .taken) (now l)
       → Is ended.the-row e (endedVal e ∷ [])
@@ -206,6 +208,7 @@ module _ {M : Type 1} (𝓤 : URA M) (H : Heap 𝓤) (A : Atoms 𝓤) (W : Given
         ap (λ (x : Ended). x .bench) is-meant,
         ap (λ (x : Ended). x .accepted) is-meant,
         ap (λ (x : Ended). x .cause) is-meant,
+        ap (λ (x : Ended). x .closing) is-meant,
         is-rest ∙ ap (λ (x : Ended). drop (x .taken) (now l)) is-meant,
       ) $
       move ! (1 ∷ []) $ frame ! $
@@ -215,12 +218,14 @@ module _ {M : Type 1} (𝓤 : URA M) (H : Heap 𝓤) (A : Atoms 𝓤) (W : Given
       owned ! bench.the-row (Is bench.the-row) (LL.makes bench.the-type bench-laws.the-plain 𝓤 H A) b _ isB $
       fjoin ! $ frame ! $
       nothing ! $ move ! (1 ∷ 0 ∷ []) $ fjoin ! $
+      owned ! closing.the-row (Is closing.the-row) (EL.makes closing.the-type closing-laws.the-plain 𝓤 H A) (e .closing) _
+      (fs .1 .1 .1 .0) $ fjoin ! $
       owned ! cause.the-row (Is cause.the-row) (EL.makes cause.the-type cause-laws.the-plain 𝓤 H A) (e .cause) _
       (fs .1 .1 .0) $ fjoin ! $
       owned ! u32 (Is u32) (uint-makes 𝓤 H A W w32) (e .accepted) _ (fs .1 .0) $ fjoin ! $
       owned ! bench.the-row (Is bench.the-row) (LL.makes bench.the-type bench-laws.the-plain 𝓤 H A) (e .bench) _
       (fs .0) $ fjoin ! $
-      by ! (own-shut 𝓤 H A W R R-laws (e .bench, (e .accepted, (e .cause, (t, tt)))))
+      by ! (own-shut 𝓤 H A W R R-laws (e .bench, (e .accepted, (e .cause, (e .closing, (t, tt))))))
 
   -- ---- the walk. The locals are 0, the result; 1 to 3, the parameters; 4, what `run_bytes` gives; 5, the rest.
   module _ (C : Calls 𝓤 H) (Λ : Loops 𝓤 H) (fm : FmC 𝓤 H (W .laws) C)
@@ -257,11 +262,11 @@ module _ {M : Type 1} (𝓤 : URA M) (H : Heap 𝓤) (A : Atoms 𝓤) (W : Given
         (ap only (LL.tells ended.the-type ended-laws.the-laws e _ is)) refl $
         -- the second call, at the field `taken`
         use2 W (raw (Tail 𝓤 H A mem exec .pre (to-tail (e .taken))) ⊛ ‵ Slice)
-        (before-tail (e .taken) (LL.owed ended.the-type ended-laws.the-laws e _ is .1 .1 .1 .0 .1)) $ split ! $
+        (before-tail (e .taken) (LL.owed ended.the-type ended-laws.the-laws e _ is .1 .1 .1 .1 .0 .1)) $ split ! $
         calls-at ! fm (Tail 𝓤 H A mem exec) tail-met (to-tail (e .taken))
         (and-then ! (load ! (from ! (stop !)) (look ! 8 refl))
         (and-then ! (load ! (from ! (fld ! {d = 19760} refl (stop !)))
-        (look-in ! 4 (sub ! 3 {d = 19760} refl (whole !)))) (no-more !))) (λ w.
+        (look-in ! 4 (sub ! 4 {d = 19760} refl (whole !)))) (no-more !))) (λ w.
         use1 W
         (later (some (λ (t : RefT (List ℕ)). ((‵ (flft κ q) ⊛ ‵ ftrue) ⊛ ‵ (Bytes-of .own t (w ∷ [])))
         ⊛ raw (ensured 𝓤 H A tail.ended (tail.clauses 𝓤 H A mem exec) (κ, tt) (l, (e .taken, tt)) tt t)))) (id⊢ 𝓤 _) $
@@ -274,7 +279,7 @@ module _ {M : Type 1} (𝓤 : URA M) (H : Heap 𝓤) (A : Atoms 𝓤) (W : Given
         land ! (from ! (stop !)) (init ! 3 refl (shr-slice-lawful 𝓤 H A W erased κ u8 .typed t _ is′ .0)) $
         rewrite ! 3 (λ (w′ : Val). ‵ (fat fullShare (sliceTy (tyRef erased imm (tyInt w8))) l₅ 0 w′))
         (ap only (shr-slice-tells (named 0) κ u8 t _ is′)) refl $
-        -- the struct: three fields of local 4, and local 5
+        -- the struct: four fields of local 4, and local 5
         assigns !
         (agg !
         (and-then ! (load ! (from ! (fld ! {d = 0} refl (stop !))) (look-in ! 5 (sub ! 0 {d = 0} refl (whole !))))
@@ -282,7 +287,9 @@ module _ {M : Type 1} (𝓤 : URA M) (H : Heap 𝓤) (A : Atoms 𝓤) (W : Given
         (load ! (from ! (fld ! {d = 19748} refl (stop !))) (look-in ! 5 (sub ! 1 {d = 19748} refl (whole !))))
         (and-then !
         (load ! (from ! (fld ! {d = 19752} refl (stop !))) (look-in ! 5 (sub ! 2 {d = 19752} refl (whole !))))
-        (and-then ! (load ! (from ! (stop !)) (look ! 3 refl)) (no-more !))))))
+        (and-then !
+        (load ! (from ! (fld ! {d = 19754} refl (stop !))) (look-in ! 5 (sub ! 3 {d = 19754} refl (whole !))))
+        (and-then ! (load ! (from ! (stop !)) (look ! 3 refl)) (no-more !)))))))
         (from ! (stop !)) (init ! 13 refl (LL.lawful R R-laws 𝓤 H A W .typed (made e t) _ (is-made e t isE isT) .0)) $
         returns ! (look ! 13 refl) $
         forget ! 3 refl $ forget ! 5 refl $ forget ! 7 refl $ forget ! 9 refl $ forget ! 11 refl $ forget ! 13 refl $

@@ -1,6 +1,7 @@
 -- What the exported calls give as numbers: 0 or the number of a refusal, with the results in what the host lends.
 use mathlib.Core.List.{List}
 use Prim.Native.Nat.{ℕ, _+_, _*_}
+use Rattle.process.specs.Steps.{closingNumber}
 use Rattle.bench.specs.declared.Bench.{Bench}
 use Rattle.bench.specs.declared.Answer.{Answer}
 use Rattle.bench.specs.declared.Answer.the-variants.{Accepted, Refused}
@@ -55,17 +56,24 @@ hostOpenedOf s n t = record { bench = openedIn s (openOf n t); number = answerNu
 
 -- ---- a run of a lent bench: its end, and what the two calls make of it
 unfoldable pub reachedOf : Ended → Reached
-reachedOf e = record { accepted = e .accepted; cause = e .cause; taken = e .taken }
+reachedOf e = record { accepted = e .accepted; cause = e .cause; closing = e .closing; taken = e .taken }
 
 unfoldable pub progressOf : Ended → Progress
-progressOf e = record { accepted = e .accepted; taken = e .taken }
+progressOf e = record { accepted = e .accepted; closing = closingNumber (e .closing); taken = e .taken }
 
 unfoldable pub hostRanOf : Reached → HostRan
 hostRanOf r =
-    record { progress = record { accepted = r .accepted; taken = r .taken }; number = causeNumber (r .cause) }
+    record {
+      progress = record { accepted = r .accepted; closing = closingNumber (r .closing); taken = r .taken };
+      number = causeNumber (r .cause);
+    }
 
 -- a run of the record in l, if there is one
 unfoldable pub hostSteppedOf : Reached → List ℕ → Counters → HostStepped
 hostSteppedOf r l c =
     let a = answerTo (r .accepted) (r .cause) in
-    record { counters = tallied (isAccepted a) (crashByte l) c; number = answerNumber a }
+    record {
+      counters = tallied (isAccepted a) (crashByte l) c;
+      number = answerNumber a;
+      closing = closingNumber (r .closing);
+    }

@@ -3,6 +3,7 @@
 use mathlib.Core.Path.{_≡_, refl, ap, _∙_}
 use mathlib.Core.List.{List}
 use Prim.Native.Nat.{ℕ}
+use Rattle.process.specs.Steps.{closingNumber}
 use Rattle.bench.specs.declared.Bench.{Bench}
 use Rattle.bench.specs.declared.Answer.{Answer}
 use Rattle.bench.specs.declared.Counters.{Counters}
@@ -35,6 +36,10 @@ module _ (s : Bench) (l : List ℕ) where
   pub step-bench : end .bench ≡ stepOf s l .bench
   unfolding steppedBy
   step-bench = ap (λ (x : Stepped). x .bench) (step-run s l)
+
+  pub step-closing : (c : Counters) → hostSteppedOf (reachedOf end) l c .closing ≡ closingNumber (stepOf s l .closing)
+  unfolding hostSteppedOf reachedOf steppedBy
+  step-closing c = ap (λ (x : Stepped). closingNumber (x .closing)) (step-run s l)
 
   pub step-number : (c : Counters) → hostSteppedOf (reachedOf end) l c .number ≡ answerNumber (stepOf s l .answer)
   unfolding hostSteppedOf reachedOf

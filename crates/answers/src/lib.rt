@@ -10,8 +10,10 @@ use bench::Shown;
 use decision::global_data;
 use one_record::answer_to;
 use one_record::tally_after;
+use process::Closing;
 use transit::in_transit;
 ghost use mathlib.Core.Path.{_≡_};
+ghost use Rattle.process.specs.Steps.{closingNumber};
 ghost use Rattle.bench.specs.Calls.{showOf, shownIn};
 ghost use Rattle.bench.specs.TransitList.{listOf, listedIn};
 ghost use Rattle.answers.specs.Numbers.{answerNumber, causeNumber, shownNumber, listedNumber};
@@ -27,12 +29,15 @@ pub struct HostOpened {
 pub struct HostStepped {
     pub counters: Counters,
     pub number: u32,
+    pub closing: u8,
 }
 
-// How far a run came: the records it accepted, and the bytes of the schedule it took.
+// How far a run came: the records it accepted, how the last round ended that it closed, and the bytes of the schedule
+// it took.
 #[repr(C)]
 pub struct Progress {
     pub accepted: u32,
+    pub closing: u8,
     pub taken: usize,
 }
 
@@ -40,6 +45,7 @@ pub struct Progress {
 pub struct Reached {
     pub accepted: u32,
     pub cause: Cause,
+    pub closing: Closing,
     pub taken: usize,
 }
 
@@ -65,6 +71,17 @@ fn cause_number(c: Cause) -> u32
         Cause::Empty => 0,
         Cause::Spent => 1,
         Cause::Refused(r) => 16 + r.number as u32,
+    }
+}
+
+fn closing_number(c: Closing) -> u8
+    ensures { λ r. ⌜ r ≡ closingNumber c ⌝ }
+{
+    match c {
+        Closing::None => 0,
+        Closing::NextRound => 1,
+        Closing::Agreed => 2,
+        Closing::LastRound => 3,
     }
 }
 
@@ -109,9 +126,11 @@ pub fn run_end(e: Ended) -> Reached
     ensures { λ r. ⌜ r ≡ reachedOf e ⌝ }
 {
     let cause = e.cause;
+    let closing = e.closing;
     Reached {
         accepted: e.accepted,
         cause,
+        closing,
         taken: e.taken,
     }
 }
@@ -120,9 +139,11 @@ pub fn host_ran(end: Reached) -> HostRan
     ensures { λ r. ⌜ r ≡ hostRanOf end ⌝ }
 {
     let cause = end.cause;
+    let closing = end.closing;
     HostRan {
         progress: Progress {
             accepted: end.accepted,
+            closing: closing_number(closing),
             taken: end.taken,
         },
         number: cause_number(cause),
@@ -134,10 +155,12 @@ pub fn host_stepped(end: Reached, rec: &[u8], c: Counters) -> HostStepped
     ensures { λ r. ⌜ r ≡ hostSteppedOf end (now (rec .entry)) c ⌝ }
 {
     let cause = end.cause;
+    let closing = end.closing;
     let answer = answer_to(end.accepted, cause);
     HostStepped {
         counters: tally_after(c, answer, rec),
         number: answer_number(answer),
+        closing: closing_number(closing),
     }
 }
 

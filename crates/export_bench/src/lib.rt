@@ -13,6 +13,7 @@ use bench::Counters;
 use one_record::record_in;
 use run::run_bytes;
 ghost use mathlib.Core.Path.{_≡_};
+ghost use Rattle.process.specs.Steps.{closingNumber};
 ghost use Rattle.bench.specs.Calls.{openOf, stepOf, tallyOf, runOf, showOf, shownIn};
 ghost use Rattle.bench.specs.TransitList.{listOf, listedIn};
 ghost use Rattle.answers.specs.Numbers.{answerNumber, causeNumber, shownNumber};
@@ -40,16 +41,23 @@ fn run_in(b: &mut Bench, schedule: &[u8], budget: u32) -> Reached
     run_end(e)
 }
 
-// One record, with the host's tally.
+// One record, with the host's tally; how the round ended is always written.
 #[no_mangle]
-pub extern "C" fn gerzulan_bench_step(b: &mut Bench, rec: &[u8], tally: &mut Counters) -> u32
+pub extern "C" fn gerzulan_bench_step(
+    b: &mut Bench,
+    rec: &[u8],
+    tally: &mut Counters,
+    closing: &mut u8,
+) -> u32
     ensures { λ r. ⌜ (r ≡ answerNumber (stepOf (now (b .entry)) (now (rec .entry)) .answer))
         × (now (b .exit) ≡ stepOf (now (b .entry)) (now (rec .entry)) .bench)
-        × (now (tally .exit) ≡ tallyOf (now (b .entry)) (now (rec .entry)) (now (tally .entry))) ⌝ }
+        × (now (tally .exit) ≡ tallyOf (now (b .entry)) (now (rec .entry)) (now (tally .entry)))
+        × (now (closing .exit) ≡ closingNumber (stepOf (now (b .entry)) (now (rec .entry)) .closing)) ⌝ }
 {
     let r = run_in(b, record_in(rec), 1);
     let h = host_stepped(r, rec, *tally);
     *tally = h.counters;
+    *closing = h.closing;
     h.number
 }
 

@@ -26,25 +26,25 @@ use Rattle.bench.specs.declared.Decoded.the-variants.{Got, Refused}
 use Rattle.bench.specs.State.{processAt, withProcess, withSent}
 use Rattle.bench.specs.Record.{messageFrom, eventOf, decodeOf}
 use Rattle.bench.specs.RecordLaws.{inRange, decode-from, decode-range}
+use Rattle.bench.specs.Sound.{soundOf}
 use Rattle.bench.specs.SoundLaws.{sound-on}
 use Rattle.bench.specs.Refuse.{passes7, refusal}
 use Rattle.bench.specs.RefuseLaws.{accepted, refused-keeps, accepted-effect}
 use Rattle.bench.specs.Effect.{rowsAt, opensRound, closesAs, effect, effectDecoded, effectOf}
 use Rattle.bench.specs.Closings.{closingAt, closingDecoded, closingIn, isNone, lastOf}
-use Rattle.bench.specs.Calls.{afterRecord}
+use Rattle.bench.specs.Calls.{afterRecord, endedOf, runOf}
 use Rattle.bench.specs.OneByOne.{restOf, recordAt, steps}
-use Rattle.bench.specs.RunLaws.{rest-next, closingTo}
+use Rattle.bench.specs.RunLaws.{rest-next, closingTo, run-sound, runs}
 
 -- ---- one record. A close always has one; of the events by their kinds, a close alone
 pub close-some : (n t a : ℕ) (rows : ℕ → GlobalData) (p : Process) → isNone (closingOf n t a rows p) ≡ false
 unfolding isNone closingOf closingNumber same choose
-close-some n t a rows p = go (same (p .round) (t + 1)) (agreedOf n a rows p)
+close-some n t a rows p = go (is (same (p .round) (t + 1))) (is (agreedOf n a rows p))
   where
-    go : (last agreed : Bool)
-        → isNone (choose last LastRound (choose agreed Agreed NextRound)) ≡ false
-    go true agreed = refl
-    go false true = refl
-    go false false = refl
+    go : Is (same (p .round) (t + 1)) → Is (agreedOf n a rows p) → isNone (closingOf n t a rows p) ≡ false
+    go (on e) f = rw e
+    go (off e) (on f) = rw (e, f)
+    go (off e) (off f) = rw (e, f)
 
 by-close : (s : Bench) (a b r v : ℕ) → isNone (closingAt (eventOf 4 a b r v) s) ≡ not (same 4 4)
 unfolding closingAt eventOf same choose
@@ -146,14 +146,14 @@ module _ (s : Bench) (l : List ℕ) where
         (next-undecided _ _ _ _ _ undecided)
 
 -- ---- a run
--- one after another: none adds nothing, and what follows a later close does not look before it
-pub last-none : (c : Closing) → lastOf c None ≡ c
-unfolding lastOf
-last-none c = choose-on _ _ _ none
-
+-- one after another: a later close is the one, and none adds nothing
 pub last-close : (c d : Closing) → isNone d ≡ false → lastOf c d ≡ d
 unfolding lastOf
 last-close c d e = choose-off _ _ _ e
+
+pub last-none : (c : Closing) → lastOf c None ≡ c
+unfolding lastOf
+last-none c = choose-on _ _ _ none
 
 pub none-last : (d : Closing) → lastOf None d ≡ d
 unfolding lastOf isNone closingNumber same choose
@@ -244,3 +244,14 @@ closing-to (suc k) s l c =
             after : (j : ℕ) → 0 < j → j < suc k → isNone (ofRecord s l j) ≡ true
             after zero p q = absurd (omega arith)
             after (suc j) p q = rest-none j (omega arith)
+
+-- a run: of the records that it accepted, that of the last close; none where there was none
+pub run-closing : (budget : ℕ) (l : List ℕ) (s : Bench) → soundOf s ≡ true
+    → let e = runOf budget l s in
+    LastClose (e .accepted) s l (e .closing)
+    ⊎ ((e .closing ≡ None) × ((j : ℕ) → j < e .accepted → isNone (ofRecord s l j) ≡ true))
+unfolding endedOf
+run-closing budget l s o =
+    let w = runs budget l s 0 None 0 in
+    let z : 0 + w .k ≡ w .k = omega arith in
+    rw (run-sound budget l s o, w .gives, z) (closing-to (w .k) s l None)

@@ -16,6 +16,7 @@ use bench::Listed;
 use bench::Shown;
 use decision::global_data;
 use one_record::step_bytes;
+use process::Closing;
 use process::Process;
 use run::run_bytes;
 use transit::in_transit;
@@ -29,6 +30,23 @@ fn say_answer(a: Answer) {
     match a {
         Answer::Accepted => say(0),
         Answer::Refused(r) => say(r.number as u32),
+    }
+}
+
+fn say_closing(c: Closing) {
+    match c {
+        Closing::None => {
+            io::write_all(1, b" -");
+        }
+        Closing::NextRound => {
+            io::write_all(1, b" next");
+        }
+        Closing::Agreed => {
+            io::write_all(1, b" agreed");
+        }
+        Closing::LastRound => {
+            io::write_all(1, b" last");
+        }
     }
 }
 
@@ -59,10 +77,14 @@ fn records(b: Bench, l: Line) -> Bench {
     let bytes = rest(&numbers, l.count);
     let s = step_bytes(b, bytes);
     let a = s.answer;
+    let c = s.closing;
     say_answer(a);
+    say_closing(c);
     let e = run_bytes(b, bytes, budget);
     let cause = e.cause;
+    let closing = e.closing;
     say_run(e.accepted, cause);
+    say_closing(closing);
     e.bench
 }
 

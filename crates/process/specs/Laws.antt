@@ -23,7 +23,6 @@ use Rattle.global_data.specs.declared.GlobalData.{GlobalData}
 use Rattle.global_data.specs.GlobalData.{nothingOf, oneOf, sameTo, allSame}
 use Rattle.global_data.specs.Laws.{fillFrom-lt}
 use Rattle.process.specs.declared.Process.{Process}
-use Rattle.process.specs.declared.Closing.the-variants.{NextRound, Agreed, LastRound}
 use Rattle.process.specs.Fields.{withReceived}
 use Rattle.process.specs.Steps.{idleOf, hasDecided, takesPart, openRoundOf, startOf, keeps, receiveOf}
 use Rattle.process.specs.Steps.{arrivedOf, dueOf, nextOf, peersOf, filledOf, agreedOf, closingOf}
@@ -183,13 +182,14 @@ module _ (n t a : ℕ) (rows : ℕ → GlobalData) (p : Process) where
   -- by one ground or the other
   pub decides-is : decidesOf n t a rows p ≡ (same (p .round) (t + 1) || agreedOf n a rows p)
   unfolding decidesOf closingOf closingNumber opensNext same choose _||_
-  decides-is = go (same (p .round) (t + 1)) (agreedOf n a rows p)
+  decides-is = go (is (same (p .round) (t + 1))) (is (agreedOf n a rows p))
     where
-      go : (last agreed : Bool)
-          → not (opensNext (choose last LastRound (choose agreed Agreed NextRound))) ≡ (last || agreed)
-      go true agreed = refl
-      go false true = refl
-      go false false = refl
+      go : Is (same (p .round) (t + 1)) → Is (agreedOf n a rows p)
+          → decidesOf n t a rows p ≡ (same (p .round) (t + 1) || agreedOf n a rows p)
+      go (on e) (on f) = simp (e, f)
+      go (on e) (off f) = simp (e, f)
+      go (off e) (on f) = simp (e, f)
+      go (off e) (off f) = simp (e, f)
 
   pub last-decides : p .round ≡ t + 1 → decidesOf n t a rows p ≡ true
   last-decides e = decides-is ∙ or-mk-l _ _ (same-mk _ _ e)

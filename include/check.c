@@ -1,5 +1,5 @@
-/* The header against the library: the layout, document 01's case 4 by every call, and a byte in `decided`. Prints `ok`, or the line that
- * failed. C11 and C++11. */
+/* The header against the library: the layout, document 01's case 4 by every call, the closings of case 2, and a byte in `decided`. Prints
+ * `ok`, or the line that failed. C11 and C++11. */
 #include "gerzulan.h"
 
 #include <assert.h>
@@ -10,6 +10,9 @@ static_assert(sizeof(struct gerzulan_process) == 112, "process");
 static_assert(sizeof(struct gerzulan_bench) == 19748, "bench");
 static_assert(offsetof(struct gerzulan_process, decided) == 1, "decided");
 static_assert(offsetof(struct gerzulan_process, previous) == 2, "previous");
+static_assert(offsetof(struct gerzulan_progress, closing) == 4, "closing");
+static_assert(offsetof(struct gerzulan_progress, taken) == 8, "taken");
+static_assert(sizeof(struct gerzulan_progress) == 16, "progress");
 
 #define CHECK(fact) \
     if (!(fact)) { \
@@ -18,6 +21,22 @@ static_assert(offsetof(struct gerzulan_process, previous) == 2, "previous");
     }
 
 static struct gerzulan_bench bench, other;
+
+/* One record. Before the call `closing` holds what no closing is, so that one left unwritten shows. */
+static uint8_t closing;
+static uint32_t step(struct gerzulan_bench *on, const uint8_t *record, size_t length, struct gerzulan_counters *tally) {
+    closing = 0xA5;
+    return gerzulan_bench_step(on, record, length, tally, &closing);
+}
+
+/* A run, with its progress alike. */
+static struct gerzulan_progress progress;
+static uint32_t run(struct gerzulan_bench *on, const uint8_t *schedule, size_t length, uint32_t budget) {
+    progress.accepted = 0xA5A5A5A5u;
+    progress.closing = 0xA5;
+    progress.taken = 0xA5A5A5A5u;
+    return gerzulan_bench_run(on, schedule, length, budget, &progress);
+}
 
 /* Case 4 after its opening: n 2, t 1. Record 10, the second close of 1, waits for 2. */
 static const uint8_t records[12][8] = {
@@ -29,24 +48,63 @@ static int one_by_one(void) {
     struct gerzulan_counters tally = {0, 0, UINT32_MAX};
     CHECK(gerzulan_bench_open(&bench, 2, 1) == 0);
     for (int i = 0; i < 12; i++) {
-        CHECK(gerzulan_bench_step(&bench, records[i], 8, &tally) == (i == 9 ? 8u : 0u));
+        CHECK(step(&bench, records[i], 8, &tally) == (i == 9 ? 8u : 0u));
+        CHECK(closing == (i == 6 ? GERZULAN_NEXT_ROUND : i == 11 ? GERZULAN_LAST_ROUND : GERZULAN_NO_CLOSE));
     }
-    CHECK(gerzulan_bench_step(&bench, records[0], 7, &tally) == 3);
+    CHECK(step(&bench, records[0], 7, &tally) == 3 && closing == GERZULAN_NO_CLOSE);
     CHECK(tally.accepted == 11 && tally.refused == 2 && tally.crashes == UINT32_MAX);
     return 0;
 }
 
 static int by_runs(void) {
-    struct gerzulan_progress progress;
+    struct gerzulan_counters tally = {0, 0, 0};
     const uint8_t *bytes = records[0];
     CHECK(gerzulan_bench_open(&other, 2, 2) == 1 && gerzulan_bench_open(&other, 2, 1) == 0);
-    CHECK(gerzulan_bench_run(&other, bytes, 96, 3, &progress) == GERZULAN_SPENT && progress.taken == 24);
-    CHECK(gerzulan_bench_run(&other, bytes + 24, 72, 100, &progress) == GERZULAN_REFUSED + 8);
+    CHECK(run(&other, bytes, 96, 3) == GERZULAN_SPENT && progress.taken == 24 && progress.closing == GERZULAN_NO_CLOSE);
+    CHECK(run(&other, bytes + 24, 72, 100) == GERZULAN_REFUSED + 8 && progress.closing == GERZULAN_NEXT_ROUND);
     CHECK(progress.accepted == 6 && progress.taken == 48);
-    CHECK(gerzulan_bench_run(&other, bytes + 80, 16, 2, &progress) == GERZULAN_EMPTY && progress.accepted == 2);
+    CHECK(run(&other, bytes + 80, 16, 2) == GERZULAN_EMPTY && progress.closing == GERZULAN_LAST_ROUND);
+    CHECK(progress.accepted == 2 && progress.taken == 16);
     CHECK(other.processes[0].decided == 1 && other.processes[0].round == bench.processes[0].round);
     other.n = 0;
-    CHECK(gerzulan_bench_run(&other, bytes, 96, 3, &progress) == GERZULAN_REFUSED + 2 && progress.taken == 0);
+    CHECK(run(&other, bytes, 96, 3) == GERZULAN_REFUSED + 2 && progress.closing == GERZULAN_NO_CLOSE);
+    CHECK(progress.accepted == 0 && progress.taken == 0);
+    CHECK(step(&other, bytes, 8, &tally) == 2 && closing == GERZULAN_NO_CLOSE && tally.refused == 1);
+    return 0;
+}
+
+/* Each of 3 processes sends to the others and receives from them, then closes the round. Gives whether each close ended as expected. */
+static int round_of_three(uint8_t round, uint8_t expected) {
+    struct gerzulan_counters tally = {0, 0, 0};
+    for (uint8_t kind = 2; kind <= 3; kind++) {
+        for (uint8_t a = 1; a <= 3; a++) {
+            for (uint8_t b = 1; b <= 3; b++) {
+                const uint8_t record[8] = {kind, a, b, (uint8_t)(kind == 3 ? round : 0), 0, 0, 0, 0};
+                if (a != b && (step(&other, record, 8, &tally) != 0 || closing != GERZULAN_NO_CLOSE)) {
+                    return 0;
+                }
+            }
+        }
+    }
+    for (uint8_t a = 1; a <= 3; a++) {
+        const uint8_t record[8] = {4, a, 0, 0, 0, 0, 0, 0};
+        if (step(&other, record, 8, &tally) != 0 || closing != expected) {
+            return 0;
+        }
+    }
+    return 1;
+}
+
+/* Case 2: n 3, t 2, no crash; all decide in round 2. */
+static int agreed(void) {
+    struct gerzulan_counters tally = {0, 0, 0};
+    CHECK(gerzulan_bench_open(&other, 3, 2) == 0);
+    for (uint8_t a = 1; a <= 3; a++) {
+        const uint8_t start[8] = {1, a, 0, 0, 40, 0, 0, 0};
+        CHECK(step(&other, start, 8, &tally) == 0 && closing == GERZULAN_NO_CLOSE);
+    }
+    CHECK(round_of_three(1, GERZULAN_NEXT_ROUND));
+    CHECK(round_of_three(2, GERZULAN_AGREED));
     return 0;
 }
 
@@ -76,22 +134,22 @@ static int decided_byte(void) {
     uint32_t out[2] = {7, 7};
     uint8_t list[3];
     CHECK(gerzulan_bench_open(&other, 2, 1) == 0 && other.processes[0].decided == 0);
-    CHECK(gerzulan_bench_step(&other, start_1, 8, &tally) == 0);
+    CHECK(step(&other, start_1, 8, &tally) == 0);
     CHECK(GERZULAN_REFUSAL(gerzulan_bench_global_data(&other, 1, out, 2)) == 11 && out[0] == 7);
     other.processes[0].decided = 53;
     CHECK(gerzulan_bench_global_data(&other, 1, out, 2) == 1 && out[0] == 40 && out[1] == 0);
-    CHECK(gerzulan_bench_step(&other, send, 8, &tally) == 0);
+    CHECK(step(&other, send, 8, &tally) == 0);
     CHECK(gerzulan_bench_in_transit(&other, list, 3) == 1 && list[0] == 1 && list[1] == 2 && list[2] == 0);
-    CHECK(gerzulan_bench_step(&other, close_1, 8, &tally) == 7);
-    CHECK(gerzulan_bench_step(&other, start_2, 8, &tally) == 0);
-    CHECK(gerzulan_bench_step(&other, arrive, 8, &tally) == 0);
+    CHECK(step(&other, close_1, 8, &tally) == 7 && closing == GERZULAN_NO_CLOSE);
+    CHECK(step(&other, start_2, 8, &tally) == 0);
+    CHECK(step(&other, arrive, 8, &tally) == 0 && closing == GERZULAN_NO_CLOSE);
     CHECK(gerzulan_bench_global_data(&other, 2, out, 2) == 1 && out[0] == 40 && out[1] == 0);
     CHECK(other.processes[0].decided == 53 && other.processes[1].decided == 1);
     return 0;
 }
 
 int main(void) {
-    if (one_by_one() || by_runs() || reads() || decided_byte()) {
+    if (one_by_one() || by_runs() || agreed() || reads() || decided_byte()) {
         return 1;
     }
     puts("ok");

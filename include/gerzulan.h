@@ -3,7 +3,7 @@
  * The host holds a bench and lends it. No call asks anything of the values: a damaged bench is refused, and `decided` may be any byte. But
  * each pointer is to initialised memory of its type (a bench of all zero will do for `gerzulan_bench_open`), a length is that of the slice
  * before it, and what is lent to be written overlaps nothing else that is given. A refusal leaves all that is lent untouched, but for the
- * tally and a run's progress. Refusals have the numbers of document 01, 1 to 12. */
+ * tally, a step's closing and a run's progress. Refusals have the numbers of document 01, 1 to 12. */
 #ifndef GERZULAN_H
 #define GERZULAN_H
 
@@ -49,19 +49,29 @@ struct gerzulan_counters {
     uint32_t crashes;
 };
 
-/* How far a run came: records accepted, bytes of the schedule taken. */
+/* How a round ended that was closed. Where both grounds to decide hold, it is the last round. */
+#define GERZULAN_NO_CLOSE 0u   /* none was closed; a decision that arrives is no close, nor is a refused record */
+#define GERZULAN_NEXT_ROUND 1u /* the next round opened */
+#define GERZULAN_AGREED 2u     /* decided because the estimates agree */
+#define GERZULAN_LAST_ROUND 3u /* decided because it was round t+1 */
+
+/* How far a run came: records accepted, how the last round that it closed ended, also where a record was refused after that, and bytes of the
+ * schedule taken. Padding may hold anything. */
 struct gerzulan_progress {
     uint32_t accepted;
+    uint8_t closing;
     size_t taken;
 };
 
 /* Opens a bench in place of *bench. 0, or 1 with *bench as it was. */
 uint32_t gerzulan_bench_open(struct gerzulan_bench *bench, uint8_t n, uint8_t t);
 
-/* One record, with the tally. 0, or its refusal, 2 to 9, with *bench as it was. */
-uint32_t gerzulan_bench_step(struct gerzulan_bench *bench, const uint8_t *record, size_t length, struct gerzulan_counters *tally);
+/* One record, with the tally. 0, or its refusal, 2 to 9, with *bench as it was. *closing is written each time: how the round that the record
+ * closed ended, or GERZULAN_NO_CLOSE. */
+uint32_t gerzulan_bench_step(struct gerzulan_bench *bench, const uint8_t *record, size_t length, struct gerzulan_counters *tally,
+                             uint8_t *closing);
 
-/* A run of a schedule, with a budget of records. Why it ended: */
+/* A run of a schedule, with a budget of records. Each field of *progress is written each time, with 0 for a damaged bench. Why it ended: */
 #define GERZULAN_EMPTY 0u   /* the schedule is empty */
 #define GERZULAN_SPENT 1u   /* the budget is spent */
 #define GERZULAN_REFUSED 16u /* and the number of the refusal: the record at `taken`, or 18, a damaged bench */

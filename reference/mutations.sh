@@ -53,16 +53,15 @@ try zero-filled-as-absent src/layout.rs \
 try zero-shown-as-absent src/layout.rs \
     '(self.present & bit(i) != 0).then(|| self.values[i])' '(self.present & bit(i) != 0 && self.values[i] != 0).then(|| self.values[i])'
 try received-dropped-once-suspected src/step.rs \
-    'let next = p.current & arrived;' 'let next = p.current & arrived & !p.suspected;'
+    'Ok(p.current & arrived)' 'Ok(p.current & arrived & !p.suspected)'
 try decide-on-equal-estimates-alone src/step.rs \
-    'let settled = p.previous == next && self.all_equal(a, next, &estimate);' \
-    'let settled = self.all_equal(a, next, &estimate);'
+    'self.processes[a].previous == next && self.all_equal(a, next, new)' 'self.all_equal(a, next, new)'
 try estimate-changed-since-the-opening src/layout.rs \
     '&self.sent[a * Bench::MAX + round as usize - 1]' '{ let _ = round; &self.processes[a].estimate }'
 
 # Not among the paper's slips: that each property check can fail.
 try never-decide-early src/step.rs \
-    'let settled = p.previous == next && self.all_equal(a, next, &estimate);' 'let settled = false;'
+    'self.processes[a].previous == next && self.all_equal(a, next, new)' 'false && self.all_equal(a, next, new)'
 try early-estimates-lost src/step.rs \
     'if !p.has_decided() && (early || expected) {' 'if !p.has_decided() && expected {'
 try decision-sent-back src/step.rs \
@@ -125,3 +124,23 @@ try only-by-1-in-close src/step.rs \
     'if p.round == 0 || p.has_decided() || p.outbox != 0 {' 'if p.round == 0 || p.decided == 1 || p.outbox != 0 {'
 try only-by-1-in-global-data src/read.rs \
     'if !p.has_decided() {' 'if p.decided != 1 {'
+
+# How a round ended.
+try agreed-where-both-hold src/step.rs \
+    'if self.in_last_round(a) {' 'if self.in_last_round(a) && !self.settled(a, next, new) {'
+try arriving-decision-as-a-close src/step.rs \
+    'Event::Arrive { a, b, message } => self.arrive(a, b, message)?,' \
+    'Event::Arrive { a, b, message } => { self.arrive(a, b, message)?; if message == Message::Decision { return Ok(Closing::Agreed); } }'
+try first-close-of-a-run src/run.rs \
+    'Ok(stepped) => closing = stepped.or(closing),' 'Ok(stepped) => closing = closing.or(stepped),'
+try last-record-of-a-run src/run.rs \
+    'Ok(stepped) => closing = stepped.or(closing),' 'Ok(stepped) => closing = stepped,'
+try largest-closing-of-a-run src/run.rs \
+    'Ok(stepped) => closing = stepped.or(closing),' \
+    'Ok(stepped) => closing = if stepped.number() > closing.number() { stepped } else { closing },'
+try none-where-a-run-ends-refused src/run.rs \
+    'Err(refusal) => break Cause::Refused(refusal.number()),' \
+    'Err(refusal) => { closing = Closing::None; break Cause::Refused(refusal.number()); }'
+try refused-close-counts-in-a-run src/run.rs \
+    'Err(refusal) => break Cause::Refused(refusal.number()),' \
+    'Err(refusal) => { if refusal == Refusal::Waiting { closing = Closing::NextRound; } break Cause::Refused(refusal.number()); }'

@@ -2,7 +2,7 @@
 
 use crate::gen::{well_formed, Adversary};
 use crate::layout::{bit, members};
-use crate::{Bench, GlobalData, Record};
+use crate::{Bench, Closing, GlobalData, Record};
 
 /// What has been broken, in words.
 pub type Broken = String;
@@ -112,11 +112,27 @@ pub fn absent_only_if_crashed(number: u8, data: &GlobalData, n: u8, before: u16)
     }
 }
 
+/// The closing of an accepted record of a, whose round was `round`: of a close, next round exactly where a is then
+/// undecided, last round exactly where that was round t+1, else agreed; of all else none.
+pub fn check_closing(record: Record, round: u8, closing: Closing, after: &Bench) -> Result<(), Broken> {
+    let decided = after.processes[record.a as usize - 1].has_decided();
+    let fits = match (record.kind, round == after.t + 1) {
+        (4, true) => closing == Closing::LastRound && decided,
+        (4, false) => closing == if decided { Closing::Agreed } else { Closing::NextRound },
+        _ => closing == Closing::None,
+    };
+    if fits {
+        Ok(())
+    } else {
+        Err(format!("closing: {closing:?} of {record:?} in round {round}, decided {decided}"))
+    }
+}
+
 /// Nothing but a crash is accepted, by trying every record.
 pub fn is_quiet(bench: &Bench) -> bool {
     let mut copy = *bench;
     let others = well_formed(bench.n, bench.t).into_iter().filter(|record| record.kind != 5);
-    others.into_iter().all(|record| copy.step_sound(&record.bytes()) != 0)
+    others.into_iter().all(|record| copy.step_sound(&record.bytes()).is_err())
 }
 
 /// One random schedule to its quiet end, with every check; gives the records accepted.
@@ -126,10 +142,11 @@ pub fn random_schedule(n: u8, t: u8, seed: u64) -> Result<usize, Broken> {
     let mut adversary = Adversary::new(seed);
     let named = |broken| format!("n {n}, t {t}, seed {seed}: {broken}");
     while let Some(record) = adversary.accepted(&bench) {
-        let answer = bench.step(&record.bytes());
-        if answer != 0 {
-            return Err(named(format!("{record:?} refused with {answer}")));
-        }
+        let round = bench.processes[record.a as usize - 1].round;
+        let closing = bench
+            .step(&record.bytes())
+            .map_err(|refusal| named(format!("{record:?} refused with {}", refusal.number())))?;
+        check_closing(record, round, closing, &bench).map_err(named)?;
         history.add(record, &bench).map_err(named)?;
     }
     if !is_quiet(&bench) {

@@ -1,10 +1,16 @@
 //! The proved library beside the reference: both get the same state and input, and must agree on every answer and on
 //! all that is lent. What differs panics with the seed and the place.
 
-use crate::gen::{self, Adversary, Rng};
+use crate::check::check_closing;
+use crate::gen::{self, Accepted, Adversary, Rng};
 use crate::layout::members;
-use crate::met::{call, Met, GLOBAL_DATA, IN_TRANSIT, RUN, TELLING, WAITING};
-use crate::{aggregates, proved, Bench, Cause, Counters, Record, Refusal};
+use crate::met::{
+    call, Met, GLOBAL_DATA, IN_TRANSIT, OF_BOTH_GROUNDS, OF_RECORD, OF_RUN, RUN, TELLING, WAITING,
+};
+use crate::proved::Progress;
+use crate::record::index;
+use crate::refusal::number;
+use crate::{aggregates, proved, Bench, Cause, Closing, Counters, Ended, Record};
 use std::collections::BTreeMap;
 use std::fmt::Debug;
 
@@ -17,13 +23,6 @@ struct Pair {
     place: String,
     calls: usize,
     met: Met,
-}
-
-fn number<T>(answer: &Result<T, Refusal>) -> u32 {
-    match answer {
-        Ok(_) => 0,
-        Err(refusal) => refusal.number() as u32,
-    }
 }
 
 impl Pair {
@@ -99,40 +98,76 @@ impl Pair {
             (self.proved_tally, self.plain_tally) = (tally, tally);
         }
         let before = self.bytes();
-        let proved = proved::step(&mut self.proved, record, &mut self.proved_tally);
-        let plain = self.plain.step_counted(record, &mut self.plain_tally);
+        let both_grounds = self.both_grounds(record);
+        let (proved, proved_closing) = proved::step(&mut self.proved, record, &mut self.proved_tally);
+        let answer = self.plain.step_counted(record, &mut self.plain_tally);
+        let (plain, closing) = (number(&answer), answer.unwrap_or(Closing::None));
         self.calls += 1;
         self.same("answer", proved, plain as u32);
         self.same("tally", self.proved_tally, self.plain_tally);
         self.same_state("state after a record");
         self.same_bytes(&before, record, plain == 0);
+        self.same("closing", proved_closing, closing.number());
+        if plain == 0 {
+            self.closing_by_rule(&before, record, closing);
+        }
         self.count_byte(&before, record, plain);
         self.met.records += 1;
         self.met.accepted += u64::from(plain == 0);
-        self.met.answer(plain as u32);
+        self.met.answer(plain);
+        self.count_closing(closing, plain == 0, both_grounds);
         plain
+    }
+
+    /// The record is a close that is due on both grounds, if its process runs.
+    fn both_grounds(&self, record: &[u8]) -> bool {
+        match Record::read(record) {
+            Ok(Record { kind: 4, a, .. }) if self.plain.is_sound() => {
+                index(a, self.plain.n).is_ok_and(|a| self.plain.both_grounds(a))
+            }
+            _ => false,
+        }
+    }
+
+    /// The closing of a record, and of a close on both grounds once more.
+    fn count_closing(&mut self, closing: Closing, accepted: bool, both_grounds: bool) {
+        self.met.closings.count(OF_RECORD + usize::from(!accepted), closing);
+        if accepted && both_grounds {
+            self.met.closings.count(OF_BOTH_GROUNDS, closing);
+        }
+    }
+
+    /// The closing of an accepted record by the rule, so that the two are not only the same.
+    fn closing_by_rule(&self, before: &[(u8, u8); Bench::MAX], record: &[u8], closing: Closing) {
+        let record = Record::read(record).expect("it was accepted");
+        let round = before[record.a as usize - 1].0;
+        if let Err(broken) = check_closing(record, round, closing, &self.proved) {
+            panic!("{}, call {}: {broken}", self.place, self.calls);
+        }
     }
 
     /// One run; gives what is left.
     fn run<'a>(&mut self, schedule: &'a [u8], budget: u32) -> (Cause, &'a [u8]) {
         let before = self.bytes();
         let proved = proved::run(&mut self.proved, schedule, budget);
-        let plain = self.plain.run(schedule, budget);
+        let Ended { accepted, cause, closing, rest } = self.plain.run(schedule, budget);
+        let progress = Progress { accepted, closing: closing.number(), taken: schedule.len() - rest.len() };
         self.calls += 1;
-        self.same("run", (proved.0, proved.1, proved.2.len()), (plain.0, plain.1, plain.2.len()));
+        self.same("run", proved, (cause, progress));
         self.same_state("state after a run");
         for (i, (_, byte)) in before.into_iter().enumerate() {
             // 0 may have become 1.
             let rule = if byte == 0 { self.proved.processes[i].decided.min(1) } else { byte };
             self.by_rule(i, byte, rule);
         }
-        self.met.records += plain.0 as u64;
-        self.met.accepted += plain.0 as u64;
-        if let Cause::Refused(refused) = plain.1 {
+        self.met.records += accepted as u64;
+        self.met.accepted += accepted as u64;
+        if let Cause::Refused(refused) = cause {
             self.met.records += 1;
-            self.met.answer(refused as u32);
+            self.met.answer(refused);
         }
-        (plain.1, plain.2)
+        self.met.closings.count(OF_RUN + usize::from(matches!(cause, Cause::Refused(_))), closing);
+        (cause, rest)
     }
 
     /// A schedule by runs of any budget. A refused record is passed over.
@@ -149,6 +184,23 @@ impl Pair {
         self.run(rest, 0);
     }
 
+    /// Every close that is due, in one run and by runs of any budget, beginning with any of them. The first comes once
+    /// more behind the others, where it is mostly refused.
+    fn closes(&mut self, bench: &Bench, rng: &mut Rng) {
+        let mut closes = Accepted::of(bench).of_kind[4].clone();
+        if closes.is_empty() {
+            return;
+        }
+        let first = rng.below(closes.len());
+        closes.rotate_left(first);
+        closes.push(closes[0]);
+        let schedule: Vec<u8> = closes.iter().flat_map(|record| record.bytes()).collect();
+        self.put(bench);
+        self.run(&schedule, u32::MAX);
+        self.put(bench);
+        self.runs(&schedule, rng);
+    }
+
     /// The global data of every process and of numbers that are none, in slices long and short.
     fn show(&mut self, rng: &mut Rng) {
         for process in (0..=self.plain.n.min(16) + 1).chain([255]) {
@@ -158,7 +210,7 @@ impl Pair {
     }
 
     /// The global data of one, in a slice of this length; gives its refusal or 0.
-    fn show_one(&mut self, process: u8, length: usize, rng: &mut Rng) -> u32 {
+    fn show_one(&mut self, process: u8, length: usize, rng: &mut Rng) -> u8 {
         let before: Vec<u32> = (0..length).map(|_| rng.draw() as u32).collect();
         let (mut proved_out, mut plain_out) = (before.clone(), before);
         let proved = proved::global_data(&self.proved, process, &mut proved_out);
@@ -175,7 +227,7 @@ impl Pair {
     }
 
     /// The list in transit, in a slice of this length; gives its refusal or 0.
-    fn list(&mut self, length: usize, rng: &mut Rng) -> u32 {
+    fn list(&mut self, length: usize, rng: &mut Rng) -> u8 {
         let before: Vec<u8> = (0..length).map(|_| rng.draw() as u8).collect();
         let (mut proved_out, mut plain_out) = (before.clone(), before);
         let proved = proved::in_transit(&self.proved, &mut proved_out);
@@ -260,7 +312,7 @@ impl Pair {
         self.calls += 4;
         let numbers = [number(&plain_total), number(&plain_go), number(&plain_lead), number(&plain_change)];
         numbers.iter().for_each(|&refused| self.met.answer(refused));
-        self.same("aggregates", [total, go, lead, change], numbers);
+        self.same("aggregates", [total, go, lead, change], numbers.map(u32::from));
         self.same("total", sum, plain_total.unwrap_or(old));
         self.same("go", went, plain_go.map_or(old as u8, u8::from));
         self.same("lead", (leader, value), plain_lead.unwrap_or((old as u8, old as u32)));
@@ -279,7 +331,7 @@ pub fn openings(seed: u64) -> Met {
         let plain = Bench::open(n, t);
         pair.calls += 1;
         pair.met.answer(number(&plain));
-        pair.same(&format!("opening {n} {t}"), answer, number(&plain));
+        pair.same(&format!("opening {n} {t}"), answer, number(&plain) as u32);
         pair.plain = plain.unwrap_or(before);
         pair.same_state("state after opening");
     }
@@ -335,6 +387,7 @@ pub fn other_states(n: u8, t: u8, seed: u64) -> Met {
     pair.run(&bytes, 3);
     pair.run(&[], 0);
     pair.reads(&mut rng);
+    pair.closes(&state, &mut rng);
     pair.met
 }
 
@@ -418,7 +471,7 @@ fn chosen(state: &Bench, a: usize, rng: &mut Rng) -> Vec<Chosen> {
 fn outcome(state: &Bench, a: usize, byte: u8, record: Record) -> (u8, Bench) {
     let mut bench = *state;
     bench.processes[a].decided = byte;
-    let answer = bench.step_sound(&record.bytes());
+    let answer = number(&bench.step_sound(&record.bytes()));
     bench.processes[a].decided = 0;
     (answer, bench)
 }

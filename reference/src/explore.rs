@@ -4,7 +4,7 @@
 //! Each process starts with one fixed value. A state carries who had crashed before the first
 //! decision; what else the properties ask for can be read from the bench.
 
-use crate::check::{absent_only_if_crashed, record_bound, valid, Broken};
+use crate::check::{absent_only_if_crashed, check_closing, record_bound, valid, Broken};
 use crate::gen::well_formed;
 use crate::layout::{bit, members};
 use crate::{Bench, GlobalData, Process, Record};
@@ -16,7 +16,7 @@ pub const MOST: u8 = 3;
 pub const VALUES: [u32; MOST as usize] = [40, 0, 25];
 
 /// What a walk found.
-#[derive(Clone, Copy, PartialEq, Eq, Debug)]
+#[derive(Clone, Copy, PartialEq, Eq, Debug, Default)]
 pub struct Found {
     pub states: usize,
     pub steps: u64,
@@ -25,6 +25,10 @@ pub struct Found {
     pub longest: usize,
     /// The last round opened by any process.
     pub last_round: u8,
+    /// Steps by the number of their closing.
+    pub closings: [u64; 4],
+    /// Those of them that decide on both grounds.
+    pub both_grounds: u64,
 }
 
 /// Walks every schedule of n and t.
@@ -62,7 +66,7 @@ impl Walk {
             records,
             path: Vec::new(),
             seen: Seen::new(),
-            found: Found { states: 0, steps: 0, quiet_ends: 0, longest: 0, last_round: 0 },
+            found: Found::default(),
         }
     }
 
@@ -87,14 +91,17 @@ impl Walk {
         for i in 0..self.records.len() {
             let record = self.records[i];
             let saved = Saved::before(record, self);
-            if self.bench.step_sound(&record.bytes()) != 0 {
-                continue;
-            }
+            let both_grounds = record.kind == 4 && self.bench.both_grounds(saved.actor);
+            let Ok(closing) = self.bench.step_sound(&record.bytes()) else { continue };
+            self.found.closings[closing.number() as usize] += 1;
+            self.found.both_grounds += u64::from(both_grounds);
             quiet &= record.kind == 5;
             if self.first.is_none() && self.bench.processes[saved.actor].has_decided() {
                 self.first = Some(self.bench.crashed);
             }
             self.path.push(record);
+            let round = saved.process.round;
+            check_closing(record, round, closing, &self.bench).map_err(|broken| self.named(broken))?;
             self.found.steps += 1;
             longest = longest.max(1 + self.visit()?);
             self.path.pop();
@@ -344,7 +351,7 @@ mod tests {
                 }
                 for record in &records {
                     let mut after = bench;
-                    if after.step_sound(&record.bytes()) == 0 {
+                    if after.step_sound(&record.bytes()).is_ok() {
                         let decided = after.processes.iter().any(|p| p.has_decided());
                         open.push((after, first.or(decided.then_some(after.crashed))));
                     }

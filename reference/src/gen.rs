@@ -271,7 +271,8 @@ fn records_by(mut adversary: Adversary, n: u8, t: u8, noise: usize) -> Vec<Vec<u
                 None => return records,
             }
         };
-        bench.step_sound(&record);
+        // A refused record stays in, and the bench as it is.
+        let _ = bench.step_sound(&record);
         records.push(record);
     }
 }
@@ -306,7 +307,7 @@ pub fn reached_state(rng: &mut Rng, n: u8, t: u8) -> Bench {
     let taken = rng.below(records.len() + 1);
     let mut bench = Bench::open(n, t).expect("a good size");
     for record in &records[..taken] {
-        bench.step_sound(record);
+        bench.step_sound(record).expect("it was accepted");
     }
     bench
 }
@@ -437,10 +438,10 @@ mod tests {
         for record in well_formed(bench.n, bench.t) {
             let bytes = record.bytes();
             let mut after = *bench;
-            let answer = after.step_sound(&bytes);
-            assert_eq!(answer == 0, named.contains(&bytes), "{record:?} on {bench:?}");
+            let accepted = after.step_sound(&bytes).is_ok();
+            assert_eq!(accepted, named.contains(&bytes), "{record:?} on {bench:?}");
             assert!(after.is_sound());
-            if answer != 0 {
+            if !accepted {
                 assert!(after == *bench);
             }
         }
@@ -456,7 +457,7 @@ mod tests {
                 let mut bench = Bench::open(n, t).unwrap();
                 for record in records(n, t, seed, 0) {
                     check_accepted(&bench);
-                    assert_eq!(bench.step(&record), 0);
+                    assert!(bench.step(&record).is_ok());
                 }
                 check_accepted(&bench);
             }

@@ -4,6 +4,7 @@
 
 pub mod aggregates;
 pub mod check;
+pub mod closing;
 #[cfg(feature = "proved")]
 pub mod compare;
 pub mod counters;
@@ -22,8 +23,9 @@ pub mod simulate;
 pub mod step;
 pub mod text;
 
+pub use closing::Closing;
 pub use counters::Counters;
 pub use layout::{Bench, GlobalData, Process};
 pub use record::{Event, Message, Record};
 pub use refusal::Refusal;
-pub use run::Cause;
+pub use run::{Cause, Ended};

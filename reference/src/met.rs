@@ -1,16 +1,34 @@
 //! What the differential test has met, so that it can tell what it has not.
 
-use crate::{Event, Message};
+use crate::{Closing, Event, Message};
 use std::ops::Range;
 
-/// What was met: records given, answers by their number, 0 for none refused, and bytes in `decided`.
+/// What was met: records given, answers by their number, 0 for none refused, closings, and bytes in `decided`.
 #[derive(Clone, Default, Debug)]
 pub struct Met {
     pub records: u64,
     pub accepted: u64,
     pub answers: [u64; 13],
+    pub closings: Closings,
     pub bytes: Bytes,
 }
+
+/// How often each closing was met, by its number, and where, as in `ENDS`.
+#[derive(Clone, Default, Debug)]
+pub struct Closings([[u64; 4]; ENDS.len()]);
+
+/// What ends in a closing, and the closings in which it can end.
+const ENDS: [(&str, Range<usize>); 5] = [
+    ("accepted records", 0..4),
+    ("refused records", 0..1),
+    ("runs", 0..4),
+    ("runs that end refused", 0..4),
+    ("closes on both grounds", 3..4),
+];
+/// Places in `ENDS`; after each of the first two is that of the refused ones.
+pub const OF_RECORD: usize = 0;
+pub const OF_RUN: usize = 2;
+pub const OF_BOTH_GROUNDS: usize = 4;
 
 /// How often each byte in `decided` was met, by call and by what came of it, as in `CALLS`.
 #[derive(Clone, Debug)]
@@ -94,14 +112,42 @@ impl Bytes {
     }
 }
 
+impl Closings {
+    pub fn count(&mut self, end: usize, closing: Closing) {
+        self.0[end][closing.number() as usize] += 1;
+    }
+
+    fn add(&mut self, other: &Closings) {
+        let sums = self.0.iter_mut().flatten();
+        sums.zip(other.0.iter().flatten()).for_each(|(sum, more)| *sum += more);
+    }
+
+    /// The closings that could be met and were not.
+    pub fn missing(&self) -> Vec<(&'static str, usize)> {
+        let mut missing = Vec::new();
+        for ((name, expected), met) in ENDS.iter().zip(&self.0) {
+            let numbers = expected.clone().filter(|&number| met[number] == 0);
+            missing.extend(numbers.map(|number| (*name, number)));
+        }
+        missing
+    }
+
+    /// How often each was met, from none to last round.
+    fn report(&self) -> String {
+        let line = |((name, _), met): (&(&str, _), &[u64; 4])| format!("{name} {met:?}");
+        ENDS.iter().zip(&self.0).map(line).collect::<Vec<String>>().join(", ")
+    }
+}
+
 impl Met {
-    pub fn answer(&mut self, number: u32) {
+    pub fn answer(&mut self, number: u8) {
         self.answers[number as usize] += 1;
     }
 
     pub fn add(&mut self, other: &Met) {
         self.records += other.records;
         self.accepted += other.accepted;
+        self.closings.add(&other.closings);
         self.bytes.add(&other.bytes);
         for (sum, more) in self.answers.iter_mut().zip(other.answers) {
             *sum += more;
@@ -116,6 +162,12 @@ impl Met {
     pub fn report(&self) -> String {
         let refusals: Vec<String> =
             (1..=12).map(|number| format!("{number}: {}", self.answers[number])).collect();
-        format!("{} records, {} accepted; refusals {}", self.records, self.accepted, refusals.join(", "))
+        format!(
+            "{} records, {} accepted; refusals {}; closings {}",
+            self.records,
+            self.accepted,
+            refusals.join(", "),
+            self.closings.report()
+        )
     }
 }

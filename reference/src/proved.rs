@@ -1,17 +1,27 @@
 //! The proved library, over the structs of `layout`. `include/gerzulan.h` has the same for C.
 //!
 //! No call asks anything of its input but that it is what its type says. A call gives 0 or the number of its refusal;
-//! what is lent is untouched where it refuses.
+//! what is lent is untouched where it refuses, but for the tally, a closing and a run's progress.
 
 use crate::{Bench, Cause, Counters};
+use std::mem::{offset_of, size_of};
 
-/// How far a run came.
+/// How far a run came: records accepted, the number of its closing, bytes of the schedule taken.
 #[repr(C)]
-#[derive(Clone, Copy, PartialEq, Eq, Debug, Default)]
+#[derive(Clone, Copy, PartialEq, Eq, Debug)]
 pub struct Progress {
     pub accepted: u32,
+    pub closing: u8,
     pub taken: usize,
 }
+
+const _: () = assert!(offset_of!(Progress, closing) == 4 && offset_of!(Progress, taken) == 8);
+const _: () = assert!(size_of::<Progress>() == 16);
+
+/// No closing has this number: where it comes back, the call has not written.
+const UNWRITTEN: u8 = 0xa5;
+const UNWRITTEN_PROGRESS: Progress =
+    Progress { accepted: 0xa5a5_a5a5, closing: UNWRITTEN, taken: 0xa5a5_a5a5_a5a5_a5a5 };
 
 /// A slice passes as a pointer and a length.
 mod library {
@@ -25,6 +35,7 @@ mod library {
             record: *const u8,
             length: usize,
             tally: &mut Counters,
+            closing: &mut u8,
         ) -> u32;
         pub fn gerzulan_bench_run(
             bench: &mut Bench,
@@ -63,15 +74,18 @@ pub fn open(bench: &mut Bench, n: u8, t: u8) -> u32 {
     unsafe { library::gerzulan_bench_open(bench, n, t) }
 }
 
-/// The call for one record.
-pub fn step(bench: &mut Bench, record: &[u8], tally: &mut Counters) -> u32 {
+/// The call for one record: its answer, and the number of its closing.
+pub fn step(bench: &mut Bench, record: &[u8], tally: &mut Counters) -> (u32, u8) {
+    let mut closing = UNWRITTEN;
     // SAFETY: the structs have the library's layout; the slice is passed whole.
-    unsafe { library::gerzulan_bench_step(bench, record.as_ptr(), record.len(), tally) }
+    let answer =
+        unsafe { library::gerzulan_bench_step(bench, record.as_ptr(), record.len(), tally, &mut closing) };
+    (answer, closing)
 }
 
-/// The records accepted, the cause and the part not taken.
-pub fn run<'a>(bench: &mut Bench, schedule: &'a [u8], budget: u32) -> (u32, Cause, &'a [u8]) {
-    let mut progress = Progress::default();
+/// Why a run ended, and how far it came.
+pub fn run(bench: &mut Bench, schedule: &[u8], budget: u32) -> (Cause, Progress) {
+    let mut progress = UNWRITTEN_PROGRESS;
     // SAFETY: as in `step`.
     let ended = unsafe {
         library::gerzulan_bench_run(bench, schedule.as_ptr(), schedule.len(), budget, &mut progress)
@@ -81,7 +95,7 @@ pub fn run<'a>(bench: &mut Bench, schedule: &'a [u8], budget: u32) -> (u32, Caus
         1 => Cause::Spent,
         _ => Cause::Refused((ended - 16) as u8),
     };
-    (progress.accepted, cause, &schedule[progress.taken..])
+    (cause, progress)
 }
 
 /// What is given, or the number of the refusal in the high half.

@@ -109,8 +109,8 @@ mod tests {
     fn in_transit_refusals() {
         let mut bench = Bench::open(2, 1).unwrap();
         assert_eq!(bench.list_in_transit(&mut []), Ok(0));
-        bench.step(&Record::start(1, 0).bytes());
-        bench.step(&Record::send(1, 2).bytes());
+        bench.step(&Record::start(1, 0).bytes()).unwrap();
+        bench.step(&Record::send(1, 2).bytes()).unwrap();
         let mut out = [9; 2];
         assert_eq!(bench.list_in_transit(&mut out), Err(Refusal::Slice));
         assert_eq!(out, [9; 2]);

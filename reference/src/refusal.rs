@@ -36,3 +36,11 @@ impl Refusal {
         self as u8
     }
 }
+
+/// 0 for what is accepted, else the refusal's number.
+pub fn number<T>(answer: &Result<T, Refusal>) -> u8 {
+    match answer {
+        Ok(_) => 0,
+        Err(refusal) => refusal.number(),
+    }
+}

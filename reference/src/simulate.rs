@@ -1,5 +1,6 @@
 //! The program of the paper: records in, one line each, then a `T` line for each process.
 
+use crate::refusal::number;
 use crate::{Bench, Record, Refusal};
 use std::fmt::Write;
 
@@ -27,7 +28,7 @@ fn open(bytes: &[u8]) -> Result<Bench, Refusal> {
 fn lines(mut bench: Bench, schedule: &[u8]) -> String {
     let mut output = String::new();
     for (i, record) in schedule.chunks(Bench::RECORD).enumerate() {
-        let answer = bench.step(record);
+        let answer = number(&bench.step(record));
         writeln!(output, "{} {}", i + 1, answer).expect("a string takes all");
     }
     for a in 0..bench.n as usize {

@@ -1,44 +1,36 @@
 //! One record: the protocol steps, in place.
 
 use crate::layout::{bit, members};
-use crate::{Bench, Event, GlobalData, Message, Record, Refusal};
+use crate::{Bench, Closing, Event, GlobalData, Message, Record, Refusal};
 
 type Answer = Result<(), Refusal>;
 
 impl Bench {
-    /// Takes one record: 0, or the number of the refusal with the state unchanged.
-    pub fn step(&mut self, record: &[u8]) -> u8 {
-        if !self.is_sound() {
-            return Refusal::Damaged.number();
-        }
+    /// Takes one record: its closing, or the refusal with the state unchanged.
+    pub fn step(&mut self, record: &[u8]) -> Result<Closing, Refusal> {
+        self.check_sound()?;
         self.step_sound(record)
     }
 
     /// `step` on a state known to be sound; it stays sound.
-    pub fn step_sound(&mut self, record: &[u8]) -> u8 {
-        match self.try_record(record) {
-            Ok(()) => 0,
-            Err(refusal) => refusal.number(),
-        }
-    }
-
-    fn try_record(&mut self, bytes: &[u8]) -> Answer {
-        let event = Record::read(bytes)?.event(self.n, self.t)?;
+    pub fn step_sound(&mut self, record: &[u8]) -> Result<Closing, Refusal> {
+        let event = Record::read(record)?.event(self.n, self.t)?;
         self.try_event(event)
     }
 
-    fn try_event(&mut self, event: Event) -> Answer {
+    fn try_event(&mut self, event: Event) -> Result<Closing, Refusal> {
         if self.crashed & bit(event.actor()) != 0 {
             return Err(Refusal::Crashed);
         }
         match event {
-            Event::Start { a, value } => self.start(a, value),
-            Event::Send { a, b } => self.send(a, b),
-            Event::Arrive { a, b, message } => self.arrive(a, b, message),
-            Event::Close { a } => self.close(a),
-            Event::Crash { a } => self.crash(a),
-            Event::Suspect { a, b } => self.suspect(a, b),
+            Event::Start { a, value } => self.start(a, value)?,
+            Event::Send { a, b } => self.send(a, b)?,
+            Event::Arrive { a, b, message } => self.arrive(a, b, message)?,
+            Event::Close { a } => return self.close(a),
+            Event::Crash { a } => self.crash(a)?,
+            Event::Suspect { a, b } => self.suspect(a, b)?,
         }
+        Ok(Closing::None)
     }
 
     fn start(&mut self, a: usize, value: u32) -> Answer {
@@ -112,8 +104,19 @@ impl Bench {
         p.outbox = everyone & !(bit(a) | p.suspected | told);
     }
 
-    /// `next` is the paper's after-set.
-    fn close(&mut self, a: usize) -> Answer {
+    fn close(&mut self, a: usize) -> Result<Closing, Refusal> {
+        let next = self.next_of(a)?;
+        let estimate = self.merged(a, next);
+        let closing = self.closing(a, next, &estimate);
+        match closing {
+            Closing::NextRound => self.advance(a, next, estimate),
+            _ => self.decide(a, estimate, 0),
+        }
+        Ok(closing)
+    }
+
+    /// The paper's after-set of a close that is due, or why it is not.
+    fn next_of(&self, a: usize) -> Result<u16, Refusal> {
         let p = &self.processes[a];
         if p.round == 0 || p.has_decided() || p.outbox != 0 {
             return Err(Refusal::NotDue);
@@ -122,15 +125,7 @@ impl Bench {
         if p.current & !(arrived | p.suspected) != 0 {
             return Err(Refusal::Waiting);
         }
-        let next = p.current & arrived;
-        let estimate = self.merged(a, next);
-        let settled = p.previous == next && self.all_equal(a, next, &estimate);
-        if p.round == self.t + 1 || settled {
-            self.decide(a, estimate, 0);
-        } else {
-            self.advance(a, next, estimate);
-        }
-        Ok(())
+        Ok(p.current & arrived)
     }
 
     /// The estimate of a, its absent entries filled from those of `next`, lowest member first.
@@ -141,6 +136,32 @@ impl Bench {
             estimate.fill(self.sent_in(m, p.round));
         }
         estimate
+    }
+
+    /// How the round of a ends: the last one is told as such, also where the estimates agree.
+    fn closing(&self, a: usize, next: u16, new: &GlobalData) -> Closing {
+        if self.in_last_round(a) {
+            Closing::LastRound
+        } else if self.settled(a, next, new) {
+            Closing::Agreed
+        } else {
+            Closing::NextRound
+        }
+    }
+
+    fn in_last_round(&self, a: usize) -> bool {
+        self.processes[a].round == self.t + 1
+    }
+
+    /// The ground to decide before the last round.
+    fn settled(&self, a: usize, next: u16, new: &GlobalData) -> bool {
+        self.processes[a].previous == next && self.all_equal(a, next, new)
+    }
+
+    /// A close of a is due that decides on both grounds. No step asks for it: the tests tell by it what they met.
+    pub fn both_grounds(&self, a: usize) -> bool {
+        let settled = |next| self.settled(a, next, &self.merged(a, next));
+        self.in_last_round(a) && self.next_of(a).is_ok_and(settled)
     }
 
     /// The new estimate equals those received from `next` and the old one of a.

@@ -1,26 +1,41 @@
-//! Cases 1 to 8 of the paper, the examples of its table of refusals, and its five slips.
+//! Cases 1 to 8 of the paper, the examples of its table of refusals, its five slips, and how rounds end.
 
+use reference::refusal::number;
 use reference::simulate::simulate;
 use reference::text::encode;
-use reference::{Bench, GlobalData, Record, Refusal};
+use reference::Closing::{Agreed, LastRound, NextRound};
+use reference::{Bench, Cause, Closing, GlobalData, Record, Refusal};
 
-/// A bench after the records of a text, all accepted. The first line is `open`.
-fn after(text: &str) -> Bench {
+/// A bench after the records of a text, all accepted, and the closing of each. The first line is `open`.
+fn stepped(text: &str) -> (Bench, Vec<Closing>) {
     let bytes = encode(text).unwrap_or_else(|error| panic!("{error}"));
     let (first, rest) = bytes.split_at(8);
     let mut bench = Bench::open(first[1], first[2]).unwrap();
-    for (i, record) in rest.chunks(8).enumerate() {
-        assert_eq!(bench.step(record), 0, "record {} of {text}", i + 1);
-    }
-    bench
+    let accepted = |(i, record)| {
+        bench.step(record).unwrap_or_else(|refusal| panic!("record {} of {text}: {refusal:?}", i + 1))
+    };
+    let closings = rest.chunks(8).enumerate().map(accepted).collect();
+    (bench, closings)
+}
+
+fn after(text: &str) -> Bench {
+    stepped(text).0
+}
+
+/// The closing of a run over the records of a text, all accepted.
+fn run(bench: &Bench, text: &str) -> Closing {
+    let bytes = encode(text).unwrap();
+    let ended = { *bench }.run(&bytes, u32::MAX);
+    assert_eq!(ended.cause, Cause::Done, "{text}");
+    ended.closing
 }
 
 /// The answer to one more record, which leaves a refusing bench as it was.
 fn answer(bench: &Bench, line: &str) -> u8 {
     let mut next = *bench;
     let answer = next.step(&encode(line).unwrap());
-    assert!(answer == 0 || next == *bench);
-    answer
+    assert!(answer.is_ok() || next == *bench);
+    number(&answer)
 }
 
 fn data(entries: &[Option<u32>]) -> GlobalData {
@@ -43,18 +58,21 @@ fn exchange(n: u8, round: u8) -> String {
 
 #[test]
 fn case_1_alone() {
-    let bench = after("open 1 0\nstart 1 7\nclose 1");
+    let (bench, closings) = stepped("open 1 0\nstart 1 7\nclose 1");
+    assert_eq!(closings, [Closing::None, LastRound]);
     assert_eq!(bench.processes[0].round, 1);
     assert_eq!(bench.decision(1), Ok(data(&[Some(7)])));
 }
 
 #[test]
 fn case_2_no_crash() {
-    let closes = "close 1\nclose 2\nclose 3\n";
-    let text = "open 3 2\nstart 1 5\nstart 2 6\nstart 3 7\n".to_string() + &exchange(3, 1) + closes;
+    let all_close = "close 1\nclose 2\nclose 3\n";
+    let text = "open 3 2\nstart 1 5\nstart 2 6\nstart 3 7\n".to_string() + &exchange(3, 1) + all_close;
     let bench = after(&text);
     assert!(bench.processes.iter().all(|p| !p.has_decided()));
-    let bench = after(&(text + &exchange(3, 2) + closes));
+    let (bench, mut closings) = stepped(&(text + &exchange(3, 2) + all_close));
+    closings.retain(|&closing| closing != Closing::None);
+    assert_eq!(closings, [NextRound, NextRound, NextRound, Agreed, Agreed, Agreed]);
     for number in 1..=3 {
         assert_eq!(bench.processes[number as usize - 1].round, 2);
         assert_eq!(bench.decision(number), Ok(data(&[Some(5), Some(6), Some(7)])));
@@ -101,6 +119,45 @@ fn case_4_program() {
 }
 
 #[test]
+fn case_4_closings() {
+    let mut bench = Bench::open(2, 1).unwrap();
+    let answers: Vec<_> = CASE_4[8..].chunks(8).map(|record| bench.step(record)).collect();
+    for (i, answer) in answers.into_iter().enumerate() {
+        let expected = match i + 1 {
+            7 => Ok(NextRound),
+            10 => Err(Refusal::Waiting),
+            12 => Ok(LastRound),
+            _ => Ok(Closing::None),
+        };
+        assert_eq!(answer, expected, "record {}", i + 1);
+    }
+}
+
+/// A run over records of case 4, by their numbers.
+fn run_case_4(bench: &mut Bench, first: usize, last: usize, budget: u32) -> (Cause, Closing) {
+    let ended = bench.run(&CASE_4[8 * first..8 * (last + 1)], budget);
+    (ended.cause, ended.closing)
+}
+
+/// A refused record counts for nothing, and takes nothing from the closes before it.
+#[test]
+fn case_4_closings_of_runs() {
+    let open = Bench::open(2, 1).unwrap();
+    assert_eq!(run_case_4(&mut { open }, 1, 9, 100), (Cause::Done, NextRound));
+    assert_eq!(run_case_4(&mut { open }, 1, 12, 9), (Cause::Spent, NextRound));
+    assert_eq!(run_case_4(&mut { open }, 1, 12, 100), (Cause::Refused(8), NextRound));
+
+    let mut bench = open;
+    assert_eq!(run_case_4(&mut bench, 1, 12, 2), (Cause::Spent, Closing::None));
+    // The two sends alone.
+    assert_eq!(run_case_4(&mut bench, 3, 4, 100), (Cause::Done, Closing::None));
+    assert_eq!(run_case_4(&mut bench, 5, 12, 100), (Cause::Refused(8), NextRound));
+    // A close of an earlier run is not of this one.
+    assert_eq!(run_case_4(&mut bench, 10, 12, 100), (Cause::Refused(8), Closing::None));
+    assert_eq!(run_case_4(&mut bench, 11, 12, 100), (Cause::Done, LastRound));
+}
+
+#[test]
 fn case_5_sizes() {
     assert!(Bench::open(16, 15).is_ok());
     assert_eq!(Bench::open(17, 0), Err(Refusal::Size));
@@ -111,7 +168,7 @@ fn case_5_sizes() {
 fn case_6_crash_limit() {
     let mut bench = Bench::open(2, 1).unwrap();
     for record in CASE_4[8..].chunks(8) {
-        bench.step(record);
+        let _ = bench.step(record);
     }
     assert_eq!(answer(&bench, "stop 1"), 9);
     assert_eq!(answer(&bench, "stop 2"), 6);
@@ -138,9 +195,37 @@ fn case_8_equal_estimates_are_not_enough() {
     assert!(one.estimate.same(&three.estimate));
     assert_eq!((one.round, one.previous, one.current), (2, 0b111, 0b101));
 
-    let one = after(&(CASE_8.to_string() + "close 1")).processes[0];
+    let (after, closings) = stepped(&(CASE_8.to_string() + "close 1"));
+    let one = after.processes[0];
+    assert_eq!(closings.last(), Some(&NextRound));
     assert_eq!((one.round, one.has_decided()), (3, false));
     assert_eq!((one.previous, one.current), (0b101, 0b101));
+}
+
+/// Case 8 goes on: in round 3, which is t+1, the sets of 1 and all estimates are equal too.
+#[test]
+fn both_grounds_are_the_last_round() {
+    let more = "close 1\narrive 1 3 round 2\nclose 3\nsend 1 3\nsend 3 1\narrive 3 1 round 3\n";
+    let before = after(&(CASE_8.to_string() + more));
+    assert!(before.both_grounds(0) && !before.both_grounds(2));
+    assert_eq!({ before }.step(&Record::close(1).bytes()), Ok(LastRound));
+    // Alone, the one round is the last and all estimates are equal in it.
+    let alone = after("open 1 0\nstart 1 7");
+    assert!(alone.both_grounds(0));
+    assert_eq!(run(&alone, "close 1"), LastRound);
+}
+
+/// 3 never expects 2, and 1 does in round 1: in round 2 the sets of 3 are equal and those of 1 differ.
+#[test]
+fn a_run_gives_its_last_close() {
+    let before = after(
+        "open 3 2\nstop 2\nnotice 3 2\nstart 1 1\nstart 3 3\nsend 1 2\nsend 1 3\nsend 3 1\n\
+         arrive 1 3 round 1\narrive 3 1 round 1\nnotice 1 2\nclose 1\nclose 3\nsend 1 3\nsend 3 1\n\
+         arrive 1 3 round 2\narrive 3 1 round 2\n",
+    );
+    assert_eq!(run(&before, "close 1\nclose 3"), Agreed);
+    assert_eq!(run(&before, "close 3\nclose 1"), NextRound);
+    assert_eq!(run(&before, "close 3\nsend 3 1"), Agreed);
 }
 
 /// 3 reached only 2 with its value and crashed before 1 started, so 1 never expects it.
@@ -237,12 +322,23 @@ fn arrivals() {
 }
 
 #[test]
+fn a_decision_that_arrives_is_no_close() {
+    let text = "open 2 0\nstart 1 1\nstart 2 2\nsend 1 2\nsend 2 1\narrive 2 1 round 1\n";
+    let told = "send 1 2\narrive 1 2 decision\n";
+    let (bench, closings) = stepped(&(text.to_string() + "close 1\n" + told));
+    assert!(bench.processes[1].has_decided());
+    assert_eq!(closings[5..], [LastRound, Closing::None, Closing::None]);
+    assert_eq!(run(&after(&(text.to_string() + "close 1")), told), Closing::None);
+    assert_eq!(run(&after(text), &("close 1\n".to_string() + told)), LastRound);
+}
+
+#[test]
 fn a_decision_does_not_decide_the_unstarted() {
     let text = "open 2 1\nstart 1 1\nsend 1 2\nstart 2 2\nsend 2 1\narrive 2 1 round 1\narrive 1 2 round 1\n\
                 close 1\nclose 2\nsend 1 2\nsend 2 1\narrive 1 2 round 2\nclose 2\nsend 2 1\n";
     let mut bench = after(text);
     bench.processes[0] = reference::Process::UNSTARTED;
-    assert_eq!(bench.step(&Record::arrive(2, 1, 0).bytes()), 0);
+    assert_eq!(bench.step(&Record::arrive(2, 1, 0).bytes()), Ok(Closing::None));
     assert_eq!(bench.processes[0], reference::Process::UNSTARTED);
     assert_eq!(bench.in_transit[17], 0);
 }

@@ -1,7 +1,7 @@
 //! Every byte in `decided`: not 0 is decided, a step that decides writes 1, and no other step changes the byte.
 
 use reference::gen::{random_state, reached_state, well_formed, Rng};
-use reference::{Bench, Record};
+use reference::{Bench, Record, Refusal};
 
 const SIZES: [(u8, u8); 5] = [(1, 0), (2, 1), (3, 1), (3, 2), (4, 2)];
 
@@ -56,7 +56,7 @@ fn run_behaves_as_with_1(bench: &Bench, records: &[Record]) {
         let ended = after.run(rest, u32::MAX);
         assert_eq!(ended, ones.run(rest, u32::MAX));
         same_but_for_the_bytes(&before, &after, &ones);
-        rest = &ended.2[ended.2.len().min(Bench::RECORD)..];
+        rest = &ended.rest[ended.rest.len().min(Bench::RECORD)..];
     }
 }
 
@@ -82,7 +82,7 @@ fn each_byte_but_0_behaves_as_1() {
 }
 
 fn accept(bench: &mut Bench, record: Record) {
-    assert_eq!(bench.step(&record.bytes()), 0, "{record:?}");
+    assert!(bench.step(&record.bytes()).is_ok(), "{record:?}");
 }
 
 /// Opened with 0; a close and a decision that arrives write 1; nothing else writes.
@@ -119,7 +119,7 @@ fn a_start_leaves_the_byte() {
         assert_eq!(bench.decision(1).map(|data| data.entry(0)), Ok(Some(40)));
         accept(&mut bench, Record::send(1, 2));
         assert_eq!((bench.in_transit[0], bench.in_transit[1]), (0b10, 0));
-        assert_eq!(bench.step(&Record::close(1).bytes()), 7);
+        assert_eq!(bench.step(&Record::close(1).bytes()), Err(Refusal::NotDue));
         accept(&mut bench, Record::start(2, 25));
         accept(&mut bench, Record::arrive(1, 2, 0));
         assert_eq!(bytes(&bench)[..2], [byte, 1]);

@@ -16,6 +16,8 @@ fn proved_library_and_reference_agree() {
     println!("seed {seed}: {}", met.report());
     assert!(met.records >= RECORDS, "{} records", met.records);
     assert!(met.missing().is_empty(), "refusals not met: {:?}", met.missing());
+    let missing = met.closings.missing();
+    assert!(missing.is_empty(), "closings not met: {missing:?}");
 }
 
 #[test]

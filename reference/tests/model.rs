@@ -1,11 +1,14 @@
 //! The bench against a slow, plain model, where each message carries its own data.
 
-use reference::gen::{records, sizes, Rng};
-use reference::{Bench, Record};
+use reference::gen::{records, schedule, sizes, Rng};
+use reference::refusal::number;
+use reference::{Bench, Cause, Closing, Ended, Record};
 use std::collections::{BTreeMap, BTreeSet};
 
 type Data = Vec<Option<u32>>;
 type Set = BTreeSet<u8>;
+/// How often a closing was met, by its number.
+type Met = [u64; 4];
 
 #[derive(Clone, Default)]
 struct Node {
@@ -30,13 +33,16 @@ struct Model {
     crashed: Set,
     /// (r, a, b) with the data carried; 0 is the decision.
     network: BTreeMap<(u8, u8, u8), Data>,
+    /// Of the last record.
+    closing: Closing,
 }
 
 impl Model {
     fn new(n: u8, t: u8) -> Model {
         let unstarted = Node { estimate: vec![None; n as usize], ..Node::default() };
         let nodes = vec![unstarted; n as usize + 1];
-        Model { n, t, nodes, crashed: Set::new(), network: BTreeMap::new() }
+        let network = BTreeMap::new();
+        Model { n, t, nodes, crashed: Set::new(), network, closing: Closing::None }
     }
 
     fn everyone(&self) -> Set {
@@ -57,6 +63,7 @@ impl Model {
     }
 
     fn step(&mut self, bytes: &[u8]) -> u8 {
+        self.closing = Closing::None;
         if bytes.len() != 8 {
             return 3;
         }
@@ -147,7 +154,12 @@ impl Model {
         let entry = |i: usize| node.estimate[i].or_else(|| estimates.iter().find_map(|data| data[i]));
         let merged: Data = (0..self.n as usize).map(entry).collect();
         let settled = node.previous == next && estimates.iter().all(|data| **data == merged);
-        if node.round == self.t + 1 || settled {
+        self.closing = match (node.round == self.t + 1, settled) {
+            (true, _) => Closing::LastRound,
+            (false, true) => Closing::Agreed,
+            (false, false) => Closing::NextRound,
+        };
+        if self.closing != Closing::NextRound {
             self.decide(a, merged, None);
         } else {
             let node = &mut self.nodes[a as usize];
@@ -156,6 +168,27 @@ impl Model {
             self.open_next(a);
         }
         0
+    }
+
+    /// A run by single records: of all closings the last that is one.
+    fn run<'a>(&mut self, schedule: &'a [u8], budget: u32) -> Ended<'a> {
+        let mut closings = Vec::new();
+        let mut cause = Cause::Done;
+        for record in schedule.chunks(8) {
+            if closings.len() == budget as usize {
+                cause = Cause::Spent;
+                break;
+            }
+            let answer = self.step(record);
+            if answer != 0 {
+                cause = Cause::Refused(answer);
+                break;
+            }
+            closings.push(self.closing);
+        }
+        let (accepted, rest) = (closings.len() as u32, &schedule[8 * closings.len()..]);
+        closings.retain(|&closing| closing != Closing::None);
+        Ended { accepted, cause, closing: closings.pop().unwrap_or(Closing::None), rest }
     }
 
     fn decide(&mut self, a: u8, data: Data, by: Option<u8>) {
@@ -205,41 +238,94 @@ fn same_network(model: &Model, bench: &Bench) {
     assert_eq!(listed, expected);
 }
 
-/// Answers and states are the same at each record.
-fn compare(n: u8, t: u8, seed: u64) {
+/// Answers, closings and states are the same at each record. Gives how often each closing was met.
+fn compare(n: u8, t: u8, seed: u64) -> Met {
+    let mut met = Met::default();
     let mut model = Model::new(n, t);
     let mut bench = Bench::open(n, t).unwrap();
     for (i, record) in records(n, t, seed, 20).iter().enumerate() {
         let told = format!("n {n}, t {t}, seed {seed}, record {}: {record:?}", i + 1);
         let before = bench;
         let answer = bench.step(record);
-        assert_eq!(answer, model.step(record), "{told}");
-        if answer != 0 {
+        assert_eq!(number(&answer), model.step(record), "{told}");
+        let Ok(closing) = answer else {
             assert!(bench == before, "{told}");
             continue;
-        }
+        };
         let event = Record::read(record).unwrap();
         let actor = if event.kind == 3 { event.b } else { event.a };
         let same = std::panic::catch_unwind(|| same_process(&model, &bench, actor));
         assert!(same.is_ok(), "{told}");
+        assert!(closing == model.closing, "{told}: {closing:?}, by the model {:?}", model.closing);
+        met[closing.number() as usize] += 1;
     }
     println!("n {n}, t {t}, seed {seed}");
-    (1..=n).for_each(|number| same_process(&model, &bench, number));
-    same_network(&model, &bench);
+    same_state(&model, &bench);
+    met
+}
+
+fn same_state(model: &Model, bench: &Bench) {
+    (1..=model.n).for_each(|number| same_process(model, bench, number));
+    same_network(model, bench);
     assert_eq!(set(bench.crashed), model.crashed);
+}
+
+/// The same of a schedule by runs of any budget, where a refused record is passed over. Counts the closings of runs that
+/// end refused apart from the others'.
+fn compare_runs(n: u8, t: u8, seed: u64) -> [Met; 2] {
+    let mut met = [Met::default(); 2];
+    let mut rng = Rng::new(seed);
+    let (mut model, mut bench) = (Model::new(n, t), Bench::open(n, t).unwrap());
+    let bytes = schedule(n, t, seed, 20);
+    let mut rest = &bytes[..];
+    while !rest.is_empty() {
+        let budget = rng.pick(&[0, 1, 2, 7, 30, u32::MAX]);
+        let (ended, expected) = (bench.run(rest, budget), model.run(rest, budget));
+        let told = format!("n {n}, t {t}, seed {seed}: run at byte {}", bytes.len() - rest.len());
+        assert!(ended == expected, "{told}: {ended:?}, by the model {expected:?}");
+        let refused = matches!(ended.cause, Cause::Refused(_));
+        met[usize::from(refused)][ended.closing.number() as usize] += 1;
+        rest = &ended.rest[if refused { ended.rest.len().min(8) } else { 0 }..];
+    }
+    println!("n {n}, t {t}, seed {seed}, by runs");
+    same_state(&model, &bench);
+    met
 }
 
 #[test]
 fn bench_and_model_agree_on_every_size() {
     for (n, t) in sizes() {
-        (100..105).for_each(|seed| compare(n, t, seed));
+        for seed in 100..105 {
+            compare(n, t, seed);
+        }
     }
 }
 
 #[test]
 fn bench_and_model_agree_on_small_sizes() {
     let mut seeds = Rng::new(2);
+    let mut met = Met::default();
     for (n, t) in sizes().filter(|&(n, _)| n <= 6) {
-        (0..200).for_each(|_| compare(n, t, seeds.draw() >> 32));
+        (0..200).for_each(|_| add(&mut met, compare(n, t, seeds.draw() >> 32)));
     }
+    println!("closings of records: {met:?}");
+    assert!(!met.contains(&0), "{met:?}");
+}
+
+#[test]
+fn runs_and_model_agree() {
+    let mut seeds = Rng::new(3);
+    let mut met = [Met::default(); 2];
+    for (n, t) in sizes() {
+        for _ in 0..if n <= 6 { 100 } else { 2 } {
+            let more = compare_runs(n, t, seeds.draw() >> 32);
+            met.iter_mut().zip(more).for_each(|(sums, more)| add(sums, more));
+        }
+    }
+    println!("closings of runs: {met:?}, the second of those that ended refused");
+    assert!(!met.as_flattened().contains(&0), "{met:?}");
+}
+
+fn add(sums: &mut Met, more: Met) {
+    sums.iter_mut().zip(more).for_each(|(sum, more)| *sum += more);
 }

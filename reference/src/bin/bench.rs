@@ -45,15 +45,13 @@ fn runs(n: u8, crashes: bool, repeats: usize) {
     let ours = || {
         for bytes in &schedules {
             let mut bench = open;
-            let (_, cause, _) = proved::run(black_box(&mut bench), bytes, u32::MAX);
-            assert_eq!(cause, Cause::Done);
+            assert_eq!(proved::run(black_box(&mut bench), bytes, u32::MAX).0, Cause::Done);
         }
     };
     let plain = || {
         for bytes in &schedules {
             let mut bench = open;
-            let (_, cause, _) = black_box(&mut bench).run(bytes, u32::MAX);
-            assert_eq!(cause, Cause::Done);
+            assert_eq!(black_box(&mut bench).run(bytes, u32::MAX).cause, Cause::Done);
         }
     };
     let kind = if crashes { "with crashes" } else { "no crashes" };
@@ -66,17 +64,19 @@ fn steps(n: u8, repeats: usize) {
     let schedules = schedules(n, false);
     let records: usize = schedules.iter().map(|bytes| bytes.len() / Bench::RECORD).sum();
     let open = Bench::open(n, n - 1).expect("a good size");
-    let each = |step: &dyn Fn(&mut Bench, &[u8], &mut Counters) -> u32| {
+    let each = |accepts: &dyn Fn(&mut Bench, &[u8], &mut Counters) -> bool| {
         for bytes in &schedules {
             let (mut bench, mut tally) = (open, Counters::default());
             for record in bytes.chunks(Bench::RECORD) {
-                assert_eq!(step(black_box(&mut bench), record, &mut tally), 0);
+                assert!(accepts(black_box(&mut bench), record, &mut tally));
             }
         }
     };
+    let ours =
+        |bench: &mut Bench, record: &[u8], tally: &mut Counters| proved::step(bench, record, tally).0 == 0;
     let plain =
-        |bench: &mut Bench, record: &[u8], tally: &mut Counters| bench.step_counted(record, tally) as u32;
-    report(&format!("one record, n {n}"), records, repeats, || each(&proved::step), || each(&plain));
+        |bench: &mut Bench, record: &[u8], tally: &mut Counters| bench.step_counted(record, tally).is_ok();
+    report(&format!("one record, n {n}"), records, repeats, || each(&ours), || each(&plain));
 }
 
 /// The soundness check: the proved one by a run of nothing, which also copies the state in and out.
@@ -85,7 +85,7 @@ fn soundness(repeats: usize) {
     let mut bench = gen::random_state(&mut Rng::new(1), 16, 15, true);
     let other = bench;
     let ours =
-        || (0..TIMES).for_each(|_| assert_eq!(proved::run(black_box(&mut bench), &[], 0).1, Cause::Done));
+        || (0..TIMES).for_each(|_| assert_eq!(proved::run(black_box(&mut bench), &[], 0).0, Cause::Done));
     let plain = || (0..TIMES).for_each(|_| assert!(black_box(&other).is_sound()));
     report("soundness, and the state copied", TIMES, repeats, ours, plain);
 }

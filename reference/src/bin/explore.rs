@@ -62,6 +62,11 @@ fn exhaustive(n: u8, t: u8) -> Result<(), Broken> {
         record_bound(n, t),
         clock.elapsed().as_secs_f64()
     );
+    let [_, next_round, agreed, last_round] = found.closings;
+    println!(
+        "  closes: {next_round} next round, {agreed} agreed, {last_round} last round, {} of these agreed too",
+        found.both_grounds
+    );
     Ok(())
 }
 

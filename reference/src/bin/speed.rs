@@ -24,13 +24,13 @@ fn report(name: &str, records: usize, work: impl Fn()) {
 
 fn run(bytes: &[u8]) {
     let mut bench = Bench::open(16, 15).expect("a good size");
-    let (_, cause, _) = black_box(&mut bench).run(bytes, u32::MAX);
-    assert_eq!(cause, Cause::Done);
+    let ended = black_box(&mut bench).run(bytes, u32::MAX);
+    assert_eq!(ended.cause, Cause::Done);
 }
 
 fn step(bytes: &[u8]) {
     let mut bench = Bench::open(16, 15).expect("a good size");
     for record in bytes.chunks(Bench::RECORD) {
-        assert_eq!(black_box(&mut bench).step(record), 0);
+        assert!(black_box(&mut bench).step(record).is_ok());
     }
 }

@@ -1,6 +1,6 @@
 -- The calls (document 01, "The other calls"): open, one record with the tally, run, global data of a process.
 -- The list in transit: TransitList.
-use mathlib.Core.List.{List, [], _++_}
+use mathlib.Core.List.{List, _++_}
 use mathlib.Core.Bool.{Bool, false, not}
 use Prim.Native.Nat.{ℕ, zero, suc, _+_, _-_}
 use lib.ListN.{getD, length, take, drop}

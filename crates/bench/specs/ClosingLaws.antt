@@ -5,7 +5,7 @@ use mathlib.Core.Path.{_≡_, refl, sym, ap, _∙_}
 use mathlib.Core.Logic.{_≢_, _⊎_, inl, inr, ⊎-elim}
 use mathlib.Core.List.{List}
 use mathlib.Core.Bool.{Bool, true, false, not}
-use Prim.Native.Nat.{ℕ, zero, suc, _+_, _-_, _≤_, _<_}
+use Prim.Native.Nat.{ℕ, zero, suc, _+_, _<_}
 use native.Mathlib.Omega.{arith}
 use lib.ListN.{length, getD, take, drop}
 use lib.Seq.{getD-set-same}
@@ -16,7 +16,8 @@ use Rattle.global_data.specs.declared.GlobalData.{GlobalData}
 use Rattle.process.specs.declared.Process.{Process}
 use Rattle.process.specs.declared.Closing.{Closing}
 use Rattle.process.specs.declared.Closing.the-variants.{None, NextRound, Agreed, LastRound}
-use Rattle.process.specs.Steps.{hasDecided, takesPart, noProcess, agreedOf, closingOf, closingNumber, opensNext, closeOf}
+use Rattle.process.specs.Steps.{noProcess, hasDecided, takesPart, agreedOf, closingOf, closingNumber, opensNext}
+use Rattle.process.specs.Steps.{closeOf}
 use Rattle.process.specs.ClosingLaws.{closing-last, next-undecided}
 use Rattle.bench.specs.declared.Bench.{Bench}
 use Rattle.bench.specs.declared.Event.{Event}
@@ -29,7 +30,7 @@ use Rattle.bench.specs.RecordLaws.{inRange, decode-from, decode-range}
 use Rattle.bench.specs.Sound.{soundOf}
 use Rattle.bench.specs.SoundLaws.{sound-on}
 use Rattle.bench.specs.Refuse.{passes7, refusal}
-use Rattle.bench.specs.RefuseLaws.{accepted, refused-keeps, accepted-effect}
+use Rattle.bench.specs.RefuseLaws.{accepted, accepted-effect}
 use Rattle.bench.specs.Effect.{rowsAt, opensRound, closesAs, effect, effectDecoded, effectOf}
 use Rattle.bench.specs.Closings.{closingAt, closingDecoded, closingIn, isNone, lastOf}
 use Rattle.bench.specs.Calls.{afterRecord, endedOf, runOf}
@@ -132,7 +133,7 @@ module _ (s : Bench) (l : List ℕ) where
         let same-event : w .event ≡ Close a = got-event (sym (w .decoded) ∙ d) in
         not-on _ (and-r _ _ (and-l _ _ (rw same-event at (w .passes .pass7))))
 
-    -- it is next round exactly where the process is then undecided
+    -- it is next round exactly where the process is then undecided; every bench has 16 processes
     pub closing-undecided : length (s .processes) ≡ 16
         → opensNext (closingIn s l) ≡ not (hasDecided (processAt (afterRecord s l) a))
     unfolding closingAt effect effectOf effectDecoded inRange

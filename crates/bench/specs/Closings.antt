@@ -1,4 +1,5 @@
--- How a round ended (request C-11), as the bench passes it up: of an event, of a record, and of one record after another.
+-- How a round ended (request C-11), as the bench passes it up: of an event, of a record, and of one record after
+-- another.
 use mathlib.Core.List.{List}
 use mathlib.Core.Bool.{Bool}
 use Prim.Native.Nat.{ℕ}

@@ -45,7 +45,8 @@ module _ (s : Bench) (l : List ℕ) where
         choose-off (same k 0) (effectOf s l) s f,
       )
 
-  pub step-damaged : soundOf s ≡ false → record { answer = Refused (refused 2); closing = None; bench = s } ≡ stepOf s l
+  pub step-damaged : soundOf s ≡ false
+      → record { answer = Refused (refused 2); closing = None; bench = s } ≡ stepOf s l
   step-damaged d = step-refused 2 (refusal-damaged s l d) (omega arith)
 
   pub step-size : soundOf s ≡ true → length l ≢ 8
@@ -92,7 +93,8 @@ module _ (s : Bench) (l : List ℕ) where
 
         turned : refusal s (take 8 l) ≢ 0 → steppedBy (runFrom 1 l s 0 None 0) ≡ stepOf s l
         turned z =
-            rw (run-refused l s 0 None 0 1 some (omega arith) z, whole) (step-refused (refusal s l) refl (rw whole at z))
+            rw (run-refused l s 0 None 0 1 some (omega arith) z, whole)
+            (step-refused (refusal s l) refl (rw whole at z))
 
   -- any other number of bytes
   none : length l ≢ 8 → soundOf s ≡ true → steppedBy (runFrom 1 [] s 0 None 0) ≡ stepOf s l

@@ -200,7 +200,8 @@ lowest arrived next v =
 pub table : List Case
 table =
     agreement 1 Agreed ∷ agreement 0 LastRound ∷ ownOld ∷ suspectedSender ∷ setsDiffer
-    ∷ zeroOrAbsent (Value 5 ∷ Value 0 ∷ Value 7 ∷ []) ∷ zeroOrAbsent (Value 5 ∷ Absent ∷ Value 7 ∷ []) ∷ lastRound ∷ lowest 3 3 8 ∷ lowest 2 2 9 ∷ []
+    ∷ zeroOrAbsent (Value 5 ∷ Value 0 ∷ Value 7 ∷ []) ∷ zeroOrAbsent (Value 5 ∷ Absent ∷ Value 7 ∷ []) ∷ lastRound
+    ∷ lowest 3 3 8 ∷ lowest 2 2 9 ∷ []
 
 -- every case passes: the checker computes it from the definitions
 pub cases : allPass table ≡ true
@@ -208,6 +209,6 @@ unfolding dataFrom rowsFrom word pred processOf sameBool shows passes allPass ag
     setsDiffer zeroOrAbsent lastRound lowest table
     has insertOf removeOf unionOf intersectionOf differenceOf allOf _&&_ _||_ same choose every each
     entryOf sameEntry filledWord fillOf fillFrom sameTo allSame
-    hasDecided openRoundOf arrivedOf nextOf peersOf filledOf agreedOf closingOf closingNumber opensNext decidesOf owedOf
-    decideOf advanceOf closeOf
+    hasDecided openRoundOf arrivedOf nextOf peersOf filledOf agreedOf closingOf closingNumber opensNext decidesOf
+    owedOf decideOf advanceOf closeOf
 cases = refl

@@ -1,8 +1,8 @@
 -- How a round ends: in round t + 1 by the last round, whatever the estimates are; in an earlier one as the test says.
 -- The next round opens exactly where the process is then undecided. By the two tests, and by what a close leaves.
-use mathlib.Core.Path.{_≡_, refl, sym, ap, _∙_}
+use mathlib.Core.Path.{_≡_, ap}
 use mathlib.Core.Logic.{_≢_}
-use mathlib.Core.Bool.{true, false, not}
+use mathlib.Core.Bool.{false, not}
 use Prim.Native.Nat.{ℕ, _+_}
 use Rattle.sets.specs.Truth.{choose}
 use Rattle.sets.specs.TruthLaws.{Is, on, off, is, choose-on, choose-off, same-mk, same-off}

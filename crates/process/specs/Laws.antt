@@ -26,7 +26,8 @@ use Rattle.process.specs.declared.Process.{Process}
 use Rattle.process.specs.Fields.{withReceived}
 use Rattle.process.specs.Steps.{idleOf, hasDecided, takesPart, openRoundOf, startOf, keeps, receiveOf}
 use Rattle.process.specs.Steps.{arrivedOf, dueOf, nextOf, peersOf, filledOf, agreedOf, closingOf}
-use Rattle.process.specs.Steps.{closingNumber, opensNext, decidesOf, owedOf, decideOf, advanceOf, closeOf, adoptOf, sendOf, suspectOf}
+use Rattle.process.specs.Steps.{closingNumber, opensNext, decidesOf, owedOf, decideOf, advanceOf}
+use Rattle.process.specs.Steps.{closeOf, adoptOf, sendOf, suspectOf}
 
 -- ---- a step by cases
 -- what holds of both holds of the chosen one

@@ -89,13 +89,14 @@ agreedOf n a rows p =
 unfoldable pub closingOf : ℕ → ℕ → ℕ → (ℕ → GlobalData) → Process → Closing
 closingOf n t a rows p = choose (same (p .round) (t + 1)) LastRound (choose (agreedOf n a rows p) Agreed NextRound)
 
--- its number
+-- its number; 0 where there was no close
 unfoldable pub closingNumber : Closing → ℕ
 closingNumber None = 0
 closingNumber NextRound = 1
 closingNumber Agreed = 2
 closingNumber LastRound = 3
 
+-- the next round is open
 unfoldable pub opensNext : Closing → Bool
 opensNext c = same (closingNumber c) 1
 

@@ -75,7 +75,8 @@ module _ (budget : ℕ) (l : List ℕ) (b s : Bench) (at accepted : ℕ) (c : Cl
   some-left : at < length l → length (drop at l) ≢ 0
   some-left h e = omega (arith, length-drop at l)
 
-  pub ends-empty : Running budget l b s at accepted c → length l ≤ at → endedOf s accepted Empty c at ≡ runOf budget l b
+  pub ends-empty : Running budget l b s at accepted c → length l ≤ at
+      → endedOf s accepted Empty c at ≡ runOf budget l b
   ends-empty w h =
       sym (run-empty (drop at l) s accepted c at (budget - accepted) (omega (arith, length-drop at l))) ∙ w .gives
 

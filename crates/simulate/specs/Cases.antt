@@ -10,7 +10,8 @@ use Rattle.global_data.specs.GlobalData.{entryOf, sameEntry, nothingOf, oneOf}
 use Rattle.global_data.specs.GlobalData.{filledWord, fillOf, fillFrom, sameTo, allSame}
 use Rattle.process.specs.Steps.{idleOf, hasDecided, takesPart, openRoundOf, startOf, keeps, receiveOf}
 use Rattle.process.specs.Steps.{arrivedOf, dueOf, nextOf, peersOf, filledOf, agreedOf, closingOf, closingNumber}
-use Rattle.process.specs.Steps.{opensNext, decidesOf, owedOf, decideOf, advanceOf, closeOf, adoptOf, messageOf, sendOf, suspectOf}
+use Rattle.process.specs.Steps.{opensNext, decidesOf, owedOf, decideOf, advanceOf, closeOf}
+use Rattle.process.specs.Steps.{adoptOf, messageOf, sendOf, suspectOf}
 use Rattle.bench.specs.State.{processAt, sentAt, transitAt, crashedAt, withProcess}
 use Rattle.bench.specs.State.{withSent, withTransit, withCrashed, openedOf}
 use Rattle.bench.specs.Sound.{opens, soundData, soundProcess, soundOf}
@@ -65,9 +66,9 @@ unfolding input output digits decimal field lineOf entryText processText process
     has insertOf removeOf unionOf intersectionOf differenceOf allOf sizeOf ones _&&_ _||_ same below choose entryOf
     sameEntry each every nothingOf oneOf filledWord fillOf fillFrom sameTo allSame idleOf hasDecided takesPart
     openRoundOf startOf keeps receiveOf arrivedOf dueOf nextOf peersOf filledOf agreedOf closingOf closingNumber
-    opensNext decidesOf owedOf decideOf advanceOf closeOf adoptOf messageOf sendOf suspectOf processAt sentAt transitAt crashedAt withProcess withSent
-    withTransit withCrashed openedOf opens everyIn within soundData soundProcess soundOf wordOf oneTo usesB usesR
-    usesValue fieldB fieldR fieldValue fields messageFrom eventOf partsOf decodeOf check numberOf actor isCrash passes7
-    passes8 passes9 refuses refusesDecoded refusal opensRound rowsAt sends arrives closesAs effect effectDecoded
-    effectOf afterRecord
+    opensNext decidesOf owedOf decideOf advanceOf closeOf adoptOf messageOf sendOf suspectOf processAt sentAt
+    transitAt crashedAt withProcess withSent withTransit withCrashed openedOf opens everyIn within soundData
+    soundProcess soundOf wordOf oneTo usesB usesR usesValue fieldB fieldR fieldValue fields messageFrom eventOf
+    partsOf decodeOf check numberOf actor isCrash passes7 passes8 passes9 refuses refusesDecoded refusal opensRound
+    rowsAt sends arrives closesAs effect effectDecoded effectOf afterRecord
 case4 = refl

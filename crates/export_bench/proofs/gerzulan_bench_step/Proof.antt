@@ -238,14 +238,17 @@ module _ {M : Type 1} (𝓤 : URA M) (H : Heap 𝓤) (A : Atoms 𝓤) (W : Given
       exE 𝓤 _
       (λ ws. snd∗ 𝓤 (sem 𝓤 H A (lasts work.ended (κ₁, tt) (passed r) ws)) (fact 𝓤 (h ≡ hostSteppedOf r (now l) c)))
 
+  -- what is had at the end
+  abbrev Left : List ℕ → HostStepped → List (Item 𝓤)
+  Left bytes h =
+      ‵ (Seen₃ (h .closing)) ∷ ‵ Lent₃ ∷ ‵ (flft κ₃ q₃) ∷ ‵ (Seen (h .counters)) ∷ ‵ Lent ∷ ‵ (flft κ₂ q₂)
+      ∷ (‵ (flft κ₁ q₁) ⊛ ‵ ftrue) ∷ ‵ Slice ∷ ‵ (flft κ q) ∷ ‵ (benchLast γ (ran bytes .bench)) ∷ []
+
   at-exit : (bytes : List ℕ) (h : HostStepped) → bytes ≡ recordIn (now l)
       → h ≡ hostSteppedOf (reachedOf (ran (recordIn (now l)))) (now l) c → h .number < 2 ^ 32
-      → ent 𝓤 (⋆ 𝓤 H A (‵ (Seen₃ (h .closing)) ∷ ‵ Lent₃ ∷ ‵ (flft κ₃ q₃) ∷ ‵ (Seen (h .counters)) ∷ ‵ Lent
-      ∷ ‵ (flft κ₂ q₂) ∷ (‵ (flft κ₁ q₁) ⊛ ‵ ftrue) ∷ ‵ Slice ∷ ‵ (flft κ q) ∷ ‵ (benchLast γ (ran bytes .bench)) ∷ []))
-      (Post (vint w32 (h .number)))
+      → ent 𝓤 (⋆ 𝓤 H A (Left bytes h)) (Post (vint w32 (h .number)))
   at-exit bytes h is-cut e fits =
-      qed W (‵ (Seen₃ (h .closing)) ∷ ‵ Lent₃ ∷ ‵ (flft κ₃ q₃) ∷ ‵ (Seen (h .counters)) ∷ ‵ Lent
-      ∷ ‵ (flft κ₂ q₂) ∷ (‵ (flft κ₁ q₁) ⊛ ‵ ftrue) ∷ ‵ Slice ∷ ‵ (flft κ q) ∷ ‵ (benchLast γ (ran bytes .bench)) ∷ []) ∵
+      qed W (Left bytes h) ∵
       suffices ! _ (ends-at 𝓤 H A this.ended changed (this.clauses 𝓤 H A mem′ exec) W
       ((κs, qs, tt, given, vals), tt) (vint w32 (h .number)) (h .number)
       (ran bytes .bench, (tt, (h .counters, (h .closing, tt)))) (tt, (tt, (tt, (tt, tt))))) $
@@ -283,8 +286,8 @@ module _ {M : Type 1} (𝓤 : URA M) (H : Heap 𝓤) (A : Atoms 𝓤) (W : Given
         pass1 ! (init ! 16 refl (tt, tt)) $
         pass1 ! (init ! 14 refl (shr-slice-lawful 𝓤 H A W (named 1) κ₁ u8 .typed l (v ∷ []) isL .0)) $
         pass1 ! (init ! 12 refl (tt, tt)) $ pass1 ! (init ! 10 refl (tt, tt)) $ pass0 ! $
-        move ! (20 ∷ []) $ split ! $ move ! (1 ∷ []) $ split ! $ move ! (1 ∷ []) $ split ! $ move ! (1 ∷ []) $ split ! $
-        move ! (1 ∷ []) $ split ! $
+        move ! (20 ∷ []) $ split ! $ move ! (1 ∷ []) $ split ! $ move ! (1 ∷ []) $ split ! $
+        move ! (1 ∷ []) $ split ! $ move ! (1 ∷ []) $ split ! $
         -- [token₂; token₁ ⊛ slice; lent₂; seen₂; token; the bench's reference; the locals,
         -- the last first; what is had of the closing]: the bench is lent on
         assigns ! (addr ! (from ! (hop ! (look ! 22 refl) (stop !)))) (from ! (stop !)) (init ! 10 refl (tt, tt)) $

@@ -218,8 +218,8 @@ module _ {M : Type 1} (𝓤 : URA M) (H : Heap 𝓤) (A : Atoms 𝓤) (W : Given
       owned ! bench.the-row (Is bench.the-row) (LL.makes bench.the-type bench-laws.the-plain 𝓤 H A) b _ isB $
       fjoin ! $ frame ! $
       nothing ! $ move ! (1 ∷ 0 ∷ []) $ fjoin ! $
-      owned ! closing.the-row (Is closing.the-row) (EL.makes closing.the-type closing-laws.the-plain 𝓤 H A) (e .closing) _
-      (fs .1 .1 .1 .0) $ fjoin ! $
+      owned ! closing.the-row (Is closing.the-row) (EL.makes closing.the-type closing-laws.the-plain 𝓤 H A)
+      (e .closing) _ (fs .1 .1 .1 .0) $ fjoin ! $
       owned ! cause.the-row (Is cause.the-row) (EL.makes cause.the-type cause-laws.the-plain 𝓤 H A) (e .cause) _
       (fs .1 .1 .0) $ fjoin ! $
       owned ! u32 (Is u32) (uint-makes 𝓤 H A W w32) (e .accepted) _ (fs .1 .0) $ fjoin ! $

@@ -169,7 +169,8 @@ closed : (c : tie.After-close Inv-loop μ-loop Inv-loop2 μ-loop2)
     let s = r .before .before .before .before .before .before .before .before .before .before .before .before .before
     .before .before .loop2 .s in
     let a = r .before .before .before .before .before .e5 .given .0 .0 in
-    c .close .result .process ≡ closeOf (s .n) (s .t) a (rowsOf (rowsIn (s .sent) (r .round-index2 .result))) (processAt s a)
+    c .close .result .process ≡ closeOf (s .n) (s .t) a (rowsOf (rowsIn (s .sent) (r .round-index2 .result)))
+    (processAt s a)
 unfolding processAt
 closed c = c .close .ensures .0
 
@@ -367,15 +368,15 @@ loop2-again-5 c =
     (c .before .before .before) .before .before .before .before .before .e5 .given .1)) _
     (gathered (c .before .before .before) .before .before .close-check .ensures ∙ sym (refuses-close _ _)) (gathered
     (c .before .before .before) .before .if8 .left) _
-    (effect-decides _ _ _ _ (gathered (c .before .before .before) .round-index2 .ensures .0) (closed (c .before .before .before))
-    (sym (c .before .has-decided .ensures) ∙ c .if9 .taken))
+    (effect-decides _ _ _ _ (gathered (c .before .before .before) .round-index2 .ensures .0) (closed
+    (c .before .before .before)) (sym (c .before .has-decided .ensures) ∙ c .if9 .taken))
     _ (closing-of (c .before .before .before))
 
 round-index-requires-3 : tie.Need-round-index-requires-3 Inv-loop μ-loop Inv-loop2 μ-loop2
 unfolding processAt
 round-index-requires-3 c κs =
-    let w = turn (gathered
-    (c .before .before .before .before) .before .before .before .before .before .before .before .before .before .before) in
+    let w = turn (gathered (c .before .before .before .before) .before .before .before .before .before .before .before
+    .before .before .before) in
     opened-round (gathered
     (c .before .before .before .before) .before .before .before .before .before .before .before .before .before .before
     .before .before .before .before .before .loop2 .s) _ _ _ (gathered
@@ -388,7 +389,8 @@ loop2-again-6 c =
     goes _ _ _ _ _ _ _ _ (event (gathered
     (c .before .before .before .before .before) .before .before .before .before .before .before .before) _ (gathered
     (c .before .before .before .before .before) .before .before .before .before .before .e5 .given .1)) _
-    (gathered (c .before .before .before .before .before) .before .before .close-check .ensures ∙ sym (refuses-close _ _))
+    (gathered (c .before .before .before .before .before) .before .before .close-check .ensures
+    ∙ sym (refuses-close _ _))
     (gathered (c .before .before .before .before .before) .before .if8 .left) _
     (effect-opens _ _ _ _ (gathered (c .before .before .before .before .before) .round-index2 .ensures .0) (closed
     (c .before .before .before .before .before)) (sym
@@ -531,7 +533,8 @@ run-bytes-spec =
     (λ c. row-bytes (round8 (c .before .before .before .before .before .before .before)) 240 tt)
     (λ c. row-at (round8 (c .before .before .before .before .before .before .before)) 240 tt)
     -- the process, and its next row
-    close-requires (λ c. scaled-fits _ 16 _ (low-close (gathered (c .before) .before .before .before .before)) (lit< tt))
+    close-requires
+    (λ c. scaled-fits _ 16 _ (low-close (gathered (c .before) .before .before .before .before)) (lit< tt))
     (λ c. low-close (gathered (c .before) .before .before .before .before)) (λ c κs. search needs)
     (λ c. turn-less (turn (gathered
     (c .before .before .before) .before .before .before .before .before .before .before .before .before .before)))

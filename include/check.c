@@ -1,9 +1,10 @@
-/* The header against the library: the layout, document 01's case 4 by every call, the closings of case 2, and a byte in `decided`. Prints
+/* The header against the library: the layout, document 01's case 4 by every call, closings of other cases, and a byte in `decided`. Prints
  * `ok`, or the line that failed. C11 and C++11. */
 #include "gerzulan.h"
 
 #include <assert.h>
 #include <stdio.h>
+#include <string.h>
 
 static_assert(sizeof(struct gerzulan_global_data) == 68, "global data");
 static_assert(sizeof(struct gerzulan_process) == 112, "process");
@@ -108,6 +109,20 @@ static int agreed(void) {
     return 0;
 }
 
+/* Case 1: n 1, t 0. Both grounds hold, and it is the last round. Then case 4 without record 10, whose run has the second close's. */
+static int last_round(void) {
+    static const uint8_t case_1[2][8] = {{1, 1, 0, 0, 7}, {4, 1}};
+    uint8_t twice[11][8];
+    CHECK(gerzulan_bench_open(&other, 1, 0) == 0);
+    CHECK(run(&other, case_1[0], 16, 2) == GERZULAN_EMPTY && progress.closing == GERZULAN_LAST_ROUND);
+    for (int i = 0; i < 11; i++) {
+        memcpy(twice[i], records[i < 9 ? i : i + 1], 8);
+    }
+    CHECK(gerzulan_bench_open(&other, 2, 1) == 0);
+    CHECK(run(&other, twice[0], 88, 99) == GERZULAN_EMPTY && progress.closing == GERZULAN_LAST_ROUND);
+    return 0;
+}
+
 static int reads(void) {
     uint32_t out[3] = {7, 7, 7}, value = 0;
     uint8_t list[3], go = 9, process = 0;
@@ -149,7 +164,7 @@ static int decided_byte(void) {
 }
 
 int main(void) {
-    if (one_by_one() || by_runs() || agreed() || reads() || decided_byte()) {
+    if (one_by_one() || by_runs() || agreed() || last_round() || reads() || decided_byte()) {
         return 1;
     }
     puts("ok");

@@ -52,6 +52,7 @@ pub struct Closed {
 }
 
 impl Closing {
+    // The next round is open: the close has not decided.
     fn opens_next(self) -> bool
         ensures { λ r. ⌜ r ≡ opensNext self ⌝ }
     {

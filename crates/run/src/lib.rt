@@ -76,6 +76,7 @@ pub fn run_bytes(bench: Bench, schedule: &[u8], budget: u32) -> Ended
     }
     let mut at: usize = 0;
     let mut accepted: u32 = 0;
+    // how the last round ended that was closed
     let mut closing = Closing::None;
     while at < schedule.len() {
         if accepted == budget {

@@ -14,7 +14,7 @@ use Rattle.aggregates.specs.declared.Candidate.{Candidate}
 use Rattle.aggregates.specs.declared.Leader.{Leader}
 use Rattle.aggregates.specs.declared.Leader.the-variants.{Nobody, Leads}
 use Rattle.aggregates.specs.Answers.{Answer, refused, gives}
-use Rattle.aggregates.specs.Entries.{entryAt, countsFor, served}
+use Rattle.aggregates.specs.Entries.{entryAt, standingAt, countsFor, served}
 use Rattle.aggregates.specs.Leader.{leaderTo}
 
 -- ---- refusals: the number of the first check that fails, or 0
@@ -33,9 +33,9 @@ unless number answer = choose (same number 0) answer (refused number)
 
 -- ---- what each gives, of n entries
 
--- absent as nought
-abbrev pub total : ℕ → (ℕ → Entry) → ℕ
-total n entry = sumTo n (λ i. countsFor (entry i))
+-- absent as the standing value of its process (C-12: a blank school still eats)
+abbrev pub total : ℕ → (ℕ → ℕ) → (ℕ → Entry) → ℕ
+total n standing entry = sumTo n (λ i. countsFor (standing i) (entry i))
 
 -- no entry absent, and each at least 1
 abbrev pub go : ℕ → (ℕ → Entry) → Bool
@@ -53,9 +53,12 @@ changed standing (Value v) = gives (pos v -ℤ pos standing)
 
 -- ---- the calls
 
-unfoldable pub totalOf : ℕ → List ℕ → ℕ → Answer ℕ
-totalOf n entries marks =
-    unless (refusalOf n marks true (length entries)) (gives (total n (entryAt entries marks)))
+-- refused last where there are not n standing values
+unfoldable pub totalOf : ℕ → List ℕ → ℕ → List ℕ → Answer ℕ
+totalOf n entries marks standing =
+    unless (refusalOf n marks true (length entries))
+    (unless (check (same (length standing) n) 10 0)
+    (gives (total n (standingAt standing) (entryAt entries marks))))
 
 unfoldable pub goOf : ℕ → List ℕ → ℕ → Answer Bool
 goOf n entries marks =

@@ -1,37 +1,62 @@
--- No word under an absent entry is read: entries that agree under the present marks have one view,
--- and each call answers by the view.
+-- Nothing under an absent entry is read, and no standing value of a present one: entries that agree under the present
+-- marks have one view, by which each call answers; and standing values that agree where no mark is set add up alike.
 use mathlib.Core.Path.{_≡_, sym, _∙_, ap, fun-ext}
 use mathlib.Core.Logic.{_⊎_, inl, inr}
-use mathlib.Core.Bool.{true}
+use mathlib.Core.Bool.{Bool, true, not}
 use mathlib.Core.List.{List}
 use Prim.Native.Nat.{ℕ, _-_, _≤_, _<_}
 use native.Mathlib.Omega.{arith}
 use lib.ListN.{getD, length, List·getD-eq-default}
+use Rattle.sets.specs.Lists.{sumTo}
 use Rattle.sets.specs.Set.{has}
-use Rattle.sets.specs.TruthLaws.{choose-off, Is, is, on, off, le-or}
+use Rattle.sets.specs.Truth.{same, oneTo, check}
+use Rattle.sets.specs.TruthLaws.{choose-on, choose-off, Is, is, on, off, le-or}
 use Rattle.global_data.specs.declared.Entry.{Entry}
 use Rattle.aggregates.specs.Answers.{gives}
-use Rattle.aggregates.specs.Entries.{entryAt}
+use Rattle.aggregates.specs.Entries.{entryAt, standingAt, countsFor}
 use Rattle.aggregates.specs.Leader.{leaderTo}
-use Rattle.sets.specs.Truth.{oneTo}
 use Rattle.aggregates.specs.Aggregates.{refusalOf, unless, total, go, led}
 use Rattle.aggregates.specs.Aggregates.{changed, totalOf, goOf, leadOf, changeOf}
+use Rattle.aggregates.specs.TotalLaws.{counts-is}
 
--- n entries each, the same where a mark is set
-pub record Alike (n marks : ℕ) (xs ys : List ℕ) : Type 0 where
+-- n words each, the same where a test holds
+pub record Alike (n : ℕ) (read : ℕ → Bool) (xs ys : List ℕ) : Type 0 where
   pub long : length xs ≡ n
   pub long′ : length ys ≡ n
-  pub words : (i : ℕ) → i < n → has marks i ≡ true → getD xs i 0 ≡ getD ys i 0
+  pub words : (i : ℕ) → i < n → read i ≡ true → getD xs i 0 ≡ getD ys i 0
 
-module _ (n marks : ℕ) (xs ys : List ℕ) (h : Alike n marks xs ys) where
-  word : (i : ℕ) → has marks i ≡ true → (n ≤ i) ⊎ (i < n) → getD xs i 0 ≡ getD ys i 0
-  word i e (inl past) =
+-- past n both are 0
+module _ (n : ℕ) (read : ℕ → Bool) (xs ys : List ℕ) (h : Alike n read xs ys) where
+  word-by : (i : ℕ) → read i ≡ true → (n ≤ i) ⊎ (i < n) → getD xs i 0 ≡ getD ys i 0
+  word-by i e (inl past) =
       List·getD-eq-default xs 0 (omega (arith, h .long)) ∙ sym (List·getD-eq-default ys 0 (omega (arith, h .long′)))
-  word i e (inr l) = h .words i l e
+  word-by i e (inr l) = h .words i l e
 
+  word : (i : ℕ) → read i ≡ true → getD xs i 0 ≡ getD ys i 0
+  word i e = word-by i e (le-or n i)
+
+-- standing values that agree where no mark is set
+module _ (n marks : ℕ) (ss ts : List ℕ) (h : Alike n (λ i. not (has marks i)) ss ts) where
+  counted : (entries : List ℕ) (i : ℕ) → Is (has marks i)
+      → countsFor (standingAt ss i) (entryAt entries marks i) ≡ countsFor (standingAt ts i) (entryAt entries marks i)
+  counted entries i (on e) =
+      counts-is entries marks i _ ∙ choose-on _ _ _ e ∙ sym (counts-is entries marks i _ ∙ choose-on _ _ _ e)
+  counted entries i (off e) = ap (λ s. countsFor s (entryAt entries marks i)) (word n _ ss ts h i (ap not e))
+
+  pub standing-blind : (entries : List ℕ) → totalOf n entries marks ss ≡ totalOf n entries marks ts
+  unfolding totalOf
+  standing-blind entries =
+      ap (unless (refusalOf n marks true (length entries)))
+      (ap (λ l. unless (check (same l n) 10 0) (gives (total n (standingAt ss) (entryAt entries marks))))
+      (h .long ∙ sym (h .long′))
+      ∙ ap (λ f. unless (check (same (length ts) n) 10 0) (gives (sumTo n f)))
+      (fun-ext (λ i. counted entries i (is (has marks i)))))
+
+-- entries that agree where a mark is set
+module _ (n marks : ℕ) (xs ys : List ℕ) (h : Alike n (has marks) xs ys) where
   entry : (i : ℕ) → Is (has marks i) → entryAt xs marks i ≡ entryAt ys marks i
   unfolding entryAt
-  entry i (on e) = rw (word i e (le-or n i))
+  entry i (on e) = rw (word n _ xs ys h i e)
   entry i (off e) = choose-off _ _ _ e ∙ sym (choose-off _ _ _ e)
 
   -- what is worked from the length and the view is the same of both
@@ -40,9 +65,13 @@ module _ (n marks : ℕ) (xs ys : List ℕ) (h : Alike n marks xs ys) where
       ap (λ (l : ℕ). f l (entryAt xs marks)) (h .long ∙ sym (h .long′))
       ∙ ap (f (length ys)) (fun-ext (λ i. entry i (is (has marks i))))
 
-  pub total-blind : totalOf n xs marks ≡ totalOf n ys marks
+  pub total-blind : (ss ts : List ℕ) → Alike n (λ i. not (has marks i)) ss ts
+      → totalOf n xs marks ss ≡ totalOf n ys marks ts
   unfolding totalOf
-  total-blind = blind (λ l entry. unless (refusalOf n marks true l) (gives (total n entry)))
+  total-blind ss ts k =
+      blind (λ l entry. unless (refusalOf n marks true l)
+      (unless (check (same (length ss) n) 10 0) (gives (total n (standingAt ss) entry))))
+      ∙ standing-blind n marks ss ts k ys
 
   pub go-blind : goOf n xs marks ≡ goOf n ys marks
   unfolding goOf

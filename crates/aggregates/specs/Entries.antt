@@ -13,10 +13,14 @@ use Rattle.global_data.specs.declared.Entry.the-variants.{Absent, Value}
 unfoldable pub entryAt : List ℕ → ℕ → ℕ → Entry
 entryAt entries marks i = entry (has marks i) (getD entries i 0)
 
--- What an entry adds to the total: absent as nought.
-abbrev pub countsFor : Entry → ℕ
-countsFor Absent = 0
-countsFor (Value v) = v
+-- The standing value (C-12: standing count) of process i, from 0.
+abbrev pub standingAt : List ℕ → ℕ → ℕ
+standingAt standing i = getD standing i 0
+
+-- What an entry adds to the total: absent as the standing value of its process.
+abbrev pub countsFor : ℕ → Entry → ℕ
+countsFor standing Absent = standing
+countsFor standing (Value v) = v
 
 -- What go asks of an entry: present, and at least 1.
 abbrev pub served : Entry → Bool

@@ -46,6 +46,10 @@ pub turned-away : {A : Type 0} (k number : ℕ) (a : Answer A) → number ≡ k 
 unfolding unless
 turned-away k number a e h = rw e (sym (choose-off _ _ _ (same-off k 0 (λ z. h (e ∙ z)))))
 
+pub unless-none : {A : Type 0} (k : ℕ) (a : Answer A) → k ≡ 0 → unless k a ≡ a
+unfolding unless
+unless-none k a e = choose-on _ _ _ (same-mk k 0 e)
+
 pub answered : {A : Type 0} (n marks : ℕ) (named : Bool) (entries : ℕ) (f : ℕ → Answer A)
     → refusalOf n marks named entries ≡ 0
     → f entries ≡ unless (refusalOf n marks named entries) (f n)

@@ -10,7 +10,7 @@ ghost use lib.IntN.{pos, _-ℤ_};
 ghost use Rattle.aggregates.specs.Aggregates.{refusalOf, total, go, led, changed};
 ghost use Rattle.aggregates.specs.Aggregates.{totalOf, goOf, leadOf, changeOf};
 ghost use Rattle.aggregates.specs.Answers.{totalMeans, goMeans, leadMeans, changeMeans};
-ghost use Rattle.aggregates.specs.Entries.{entryAt, countsFor, served};
+ghost use Rattle.aggregates.specs.Entries.{entryAt, standingAt, countsFor, served};
 ghost use Rattle.aggregates.specs.Leader.{better, contend, withEntry, leaderTo};
 
 // A refusal, by document 01's number.
@@ -78,23 +78,26 @@ fn entry_at(entries: &[u32], marks: u16, i: usize) -> Entry
     }
 }
 
-fn counts_for(entry: Entry) -> u32
-    ensures { λ r. ⌜ r ≡ countsFor entry ⌝ }
+// What an entry counts for, of process i, from 0. Its standing value is read only where the entry is absent.
+fn counts_for(standing: &[u32], i: usize, entry: Entry) -> u32
+    requires { ⌜ i < length (now standing) ⌝ }
+    ensures { λ r. ⌜ r ≡ countsFor (standingAt (now (standing .entry)) i) entry ⌝ }
 {
     match entry {
-        Entry::Absent => 0,
+        Entry::Absent => standing[i],
         Entry::Value(v) => v,
     }
 }
 
-fn sum(entries: &[u32], marks: u16) -> u64
-    requires { ⌜ length (now entries) ≤ 16 ⌝ }
-    ensures { λ r. ⌜ r ≡ total (length (now (entries .entry))) (entryAt (now (entries .entry)) marks) ⌝ }
+fn sum(entries: &[u32], marks: u16, standing: &[u32]) -> u64
+    requires { ⌜ (length (now entries) ≤ 16) × (length (now standing) ≡ length (now entries)) ⌝ }
+    ensures { λ r. ⌜ r ≡ total (length (now (entries .entry))) (standingAt (now (standing .entry)))
+        (entryAt (now (entries .entry)) marks) ⌝ }
 {
     let mut sum: u64 = 0;
     let mut i = 0;
     while i < entries.len() {
-        sum += counts_for(entry_at(entries, marks, i)) as u64;
+        sum += counts_for(standing, i, entry_at(entries, marks, i)) as u64;
         i += 1;
     }
     sum
@@ -195,15 +198,18 @@ fn changed_by(standing: u32, entry: Entry) -> ChangeAnswer
     }
 }
 
-// The sum of the entries, absent as nought.
-pub fn total(n: u8, entries: &[u32], marks: u16) -> TotalAnswer
-    ensures { λ r. ⌜ totalMeans r ≡ totalOf n (now (entries .entry)) marks ⌝ }
+// The sum of the entries, absent as the standing value of its process.
+pub fn total(n: u8, entries: &[u32], marks: u16, standing: &[u32]) -> TotalAnswer
+    ensures { λ r. ⌜ totalMeans r ≡ totalOf n (now (entries .entry)) marks (now (standing .entry)) ⌝ }
 {
     let number = first_refusal(n, marks, true, entries.len());
     if number != 0 {
         return TotalAnswer::Refused(Refusal { number });
     }
-    TotalAnswer::Sum(sum(entries, marks))
+    if standing.len() != n as usize {
+        return TotalAnswer::Refused(Refusal { number: 10 });
+    }
+    TotalAnswer::Sum(sum(entries, marks, standing))
 }
 
 // Whether no entry is absent and each is at least 1.

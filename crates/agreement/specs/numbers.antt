@@ -1,3 +1,2 @@
 -- Laws of counts and sums. Nothing of the protocol is in them.
 pub mod Pigeonhole
-pub mod Sums

@@ -21,9 +21,13 @@ use process::Process;
 use run::run_bytes;
 use transit::in_transit;
 
-fn say(number: u32) {
+fn say_long(number: u64) {
     io::write_all(1, b" ");
-    io::print_decimal(1, number as u64);
+    io::print_decimal(1, number);
+}
+
+fn say(number: u32) {
+    say_long(number as u64);
 }
 
 fn say_answer(a: Answer) {
@@ -142,12 +146,33 @@ fn list(b: Bench) {
     }
 }
 
-// The change is from 4.
-fn aggregate(n: u8, marks: u16, process: u8, entries: &[u32]) {
-    match total(n, entries, marks) {
-        TotalAnswer::Sum(_) => say(0),
+fn say_total(a: TotalAnswer) {
+    match a {
+        TotalAnswer::Sum(v) => {
+            say(0);
+            say_long(v);
+        }
         TotalAnswer::Refused(r) => say(r.number as u32),
     }
+}
+
+// Of four standing values so many are lent.
+fn sum(n: u8, marks: u16, standing: usize) {
+    if 4 < standing {
+        return;
+    }
+    let all = [50u32, 60, 70, 80];
+    say_total(total(n, &[5, 6, 7], marks, &all[0..standing]));
+}
+
+// Every word is the largest, present or not.
+fn greatest(n: u8, marks: u16) {
+    let all = [4294967295u32; 16];
+    say_total(total(n, &all, marks, &all));
+}
+
+// The change is from 4.
+fn aggregate(n: u8, marks: u16, process: u8, entries: &[u32]) {
     match go(n, entries, marks) {
         GoAnswer::Go(_) => say(0),
         GoAnswer::Refused(r) => say(r.number as u32),
@@ -171,6 +196,8 @@ fn look(b: Bench, letter: u8, first: u8, second: u8, third: u8) {
         b'p' => process(b, first),
         b'd' => data(b, first, second as usize),
         b'i' => list(b),
+        b't' => sum(first, second as u16, third as usize),
+        b'g' => greatest(first, second as u16),
         b'a' => aggregate(first, second as u16, third, &[5, 6, 7]),
         _ => {}
     }

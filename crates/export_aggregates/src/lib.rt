@@ -10,11 +10,18 @@ ghost use Rattle.sets.specs.Truth.{bit};
 ghost use Rattle.export_aggregates.specs.Words.{refusalIn, wordIn};
 
 #[no_mangle]
-pub extern "C" fn gerzulan_total(n: u8, entries: &[u32], marks: u16, sum: &mut u64) -> u32
-    ensures { λ r. ⌜ (r ≡ refusalIn (totalOf n (now (entries .entry)) marks))
-        × (now (sum .exit) ≡ wordIn (λ v. v) (totalOf n (now (entries .entry)) marks) (now (sum .entry))) ⌝ }
+pub extern "C" fn gerzulan_total(
+    n: u8,
+    entries: &[u32],
+    marks: u16,
+    standing: &[u32],
+    sum: &mut u64,
+) -> u32
+    ensures { λ r. ⌜ (r ≡ refusalIn (totalOf n (now (entries .entry)) marks (now (standing .entry))))
+        × (now (sum .exit)
+        ≡ wordIn (λ v. v) (totalOf n (now (entries .entry)) marks (now (standing .entry))) (now (sum .entry))) ⌝ }
 {
-    match aggregates::total(n, entries, marks) {
+    match aggregates::total(n, entries, marks, standing) {
         TotalAnswer::Sum(v) => {
             *sum = v;
             0

@@ -4,7 +4,7 @@
 use mathlib.Core.Path.{_≡_, refl, sym, _∙_}
 use mathlib.Core.Logic.{_≢_, _⊎_, inl, inr, ⊎-elim}
 use mathlib.Core.List.{List, [], _∷_}
-use mathlib.Core.Bool.{Bool, true, false, not}
+use mathlib.Core.Bool.{true, false, not}
 use Prim.Native.Nat.{ℕ, zero, suc, _+_, _-_, _^_, _≤_, _<_}
 use native.Mathlib.Omega.{arith}
 use lib.ListN.{length, getD, set, replicate, length-set}
@@ -16,7 +16,7 @@ use Rattle.sets.specs.EachLaws.{each-getD}
 use Rattle.sets.specs.Truth.{_&&_, _||_, same, below, choose}
 use Rattle.sets.specs.TruthLaws.{Is, on, off, is, and-l, and-r, and-mk, and-cases, and-on-l, or-mk-l}
 use Rattle.sets.specs.TruthLaws.{or-mk-r, or-off-l, or-none-l, or-none-r, not-on, not-off, off-by, clash}
-use Rattle.sets.specs.TruthLaws.{same-on, same-mk, same-off, same-not, eq-or, choose-on, choose-off}
+use Rattle.sets.specs.TruthLaws.{same-on, same-mk, same-off, same-not, eq-or, choose-on, choose-off, choose-by}
 use Rattle.sets.specs.Laws.{has-insert, has-remove, has-union, has-intersection, has-difference, has-all}
 use Rattle.sets.specs.Laws.{nothing-in, empty-by, all-lt, insert-lt, remove-lt, difference-lt, intersection-lt}
 use Rattle.global_data.specs.declared.GlobalData.{GlobalData}
@@ -30,12 +30,6 @@ use Rattle.process.specs.Steps.{closingNumber, opensNext, decidesOf, owe
 use Rattle.process.specs.Steps.{closeOf, adoptOf, sendOf, suspectOf}
 
 -- ---- a step by cases
--- what holds of both holds of the chosen one
-choose-by : {A : Type 0} (P : A → Type 0) (b : Bool) (x y : A) → (b ≡ true → P x) → (b ≡ false → P y)
-    → P (choose b x y)
-unfolding choose
-choose-by P true x y f g = f refl
-choose-by P false x y f g = g refl
 
 -- the sets of l, with y in the one at `at`, each written anew
 unfoldable pub wordsWith : List ℕ → ℕ → ℕ → List ℕ

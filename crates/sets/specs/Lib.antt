@@ -4,6 +4,7 @@ pub mod EveryLaws
 pub mod Laws
 pub mod Lists
 pub mod Set
+pub mod SumLaws
 pub mod Tests
 pub mod Truth
 pub mod TruthLaws

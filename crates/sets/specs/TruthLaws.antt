@@ -39,6 +39,13 @@ pub choose-off {ℓ} : {A : Type ℓ} (b : Bool) (x y : A) → b ≡ false → c
 unfolding choose
 choose-off b x y e = rw e
 
+-- what holds of both holds of the chosen one
+pub choose-by {ℓ} : {A : Type ℓ} (P : A → Type 0) (b : Bool) (x y : A) → (b ≡ true → P x) → (b ≡ false → P y)
+    → P (choose b x y)
+unfolding choose
+choose-by P true x y f g = f refl
+choose-by P false x y f g = g refl
+
 -- ---- conjunction
 pub and-l : (a b : Bool) → (a && b) ≡ true → a ≡ true
 unfolding _&&_

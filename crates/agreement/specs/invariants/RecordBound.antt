@@ -17,7 +17,7 @@ use Rattle.agreement.specs.view.View.{View, same3, slot, taken, Others, 
 use Rattle.agreement.specs.view.View.{Send, Arrive, Adopt, Close, Step, starts, sends, keeps}
 use Rattle.agreement.specs.view.View.{adopts, ignores, opens, decides, crashes, suspects, Opened}
 use Rattle.agreement.specs.view.Basic.{Basic}
-use Rattle.agreement.specs.numbers.Sums.{sum-le, sum-lt, sum-surplus, sum-same, sum-bound, sum-add, count-sum}
+use Rattle.sets.specs.SumLaws.{sum-le, sum-lt, sum-surplus, sum-same, sum-bound, sum-add, count-sum}
 use Rattle.sets.specs.CountLaws.{bit-le, bit-mono, count-mono, count-more}
 
 -- how far process a is

@@ -1,13 +1,13 @@
--- Finite sums of numbers, and a count as a sumTo of bits: how a sumTo moves when its terms move.
+-- Laws of `sumTo`: how a sum moves when its terms move, and a count as a sum of bits. By induction on n.
 use mathlib.Core.Path.{_≡_, refl, ap}
 use mathlib.Core.Logic.{_≢_, _⊎_, inl, inr}
 use mathlib.Core.Bool.{Bool}
 use Prim.Native.Nat.{ℕ, zero, suc, _+_, _*_, _≤_, _<_}
 use native.Mathlib.Nat.{suc-mul}
 use native.Mathlib.Omega.{arith}
 use Rattle.sets.specs.TruthLaws.{eq-or}
 use Rattle.sets.specs.Lists.{count, sumTo}
 use Rattle.sets.specs.Truth.{bit}
 
 pub sum-le : (n : ℕ) (f g : ℕ → ℕ) → ((x : ℕ) → x < n → f x ≤ g x) → sumTo n f ≤ sumTo n g
 unfolding sumTo

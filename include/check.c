@@ -1,5 +1,5 @@
-/* The header against the library: the layout, document 01's case 4 by every call, closings of other cases, and a byte in `decided`. Prints
- * `ok`, or the line that failed. C11 and C++11. */
+/* The header against the library: the layout, document 01's case 4 by every call, closings of other cases, standing values in a total, and
+ * a byte in `decided`. Prints `ok`, or the line that failed. C11 and C++11. */
 #include "gerzulan.h"
 
 #include <assert.h>
@@ -124,6 +124,7 @@ static int last_round(void) {
 }
 
 static int reads(void) {
+    static const uint32_t standing[2] = {100, 200};
     uint32_t out[3] = {7, 7, 7}, value = 0;
     uint8_t list[3], go = 9, process = 0;
     uint64_t sum = 0;
@@ -133,11 +134,37 @@ static int reads(void) {
     CHECK(out[0] == 40 && out[1] == 25 && out[2] == 7);
     CHECK(GERZULAN_REFUSAL(gerzulan_bench_in_transit(&bench, list, 2)) == 10);
     CHECK(gerzulan_bench_in_transit(&bench, list, 3) == 1 && list[0] == 1 && list[1] == 2 && list[2] == 2);
-    CHECK(gerzulan_total(2, out, 2, 3, &sum) == 0 && sum == 65);
+    CHECK(gerzulan_total(2, out, 2, 3, standing, 2, &sum) == 0 && sum == 65);
     CHECK(gerzulan_go(2, out, 2, 3, &go) == 0 && go == 1);
     CHECK(gerzulan_lead(2, out, 2, 3, &process, &value) == 0 && process == 1 && value == 40);
     CHECK(gerzulan_change(2, out, 2, 3, 2, 30, &difference) == 0 && difference == -5);
     CHECK(gerzulan_change(2, out, 2, 1, 2, 30, &difference) == 12 && difference == -5);
+    return 0;
+}
+
+/* An absent entry counts as its standing value. A list of standing values not of n is refused, read or not, and the sum is left. */
+static int totals(void) {
+    static const uint32_t entries[4] = {40, 25, 7, 1}, standing[4] = {100, 200, 300, 400};
+    uint32_t most[16], least[16];
+    uint64_t sum = 0;
+    CHECK(gerzulan_total(3, entries, 3, 7, standing, 3, &sum) == 0 && sum == 72);
+    CHECK(gerzulan_total(3, entries, 3, 5, standing, 3, &sum) == 0 && sum == 247);
+    CHECK(gerzulan_total(3, entries, 3, 0, standing, 3, &sum) == 0 && sum == 600);
+    sum = 9;
+    for (size_t length = 0; length <= 4; length++) {
+        CHECK(length == 3 || (gerzulan_total(3, entries, 3, 5, standing, length, &sum) == 10 && sum == 9));
+        CHECK(length == 3 || (gerzulan_total(3, entries, 3, 7, standing, length, &sum) == 10 && sum == 9));
+        CHECK(length == 3 || (gerzulan_total(3, entries, length, 5, standing, 3, &sum) == 10 && sum == 9));
+        CHECK(gerzulan_total(3, entries, 3, 8, standing, length, &sum) == 5 && sum == 9);
+        CHECK(gerzulan_total(0, entries, 3, 8, standing, length, &sum) == 1 && sum == 9);
+    }
+    for (int i = 0; i < 16; i++) {
+        most[i] = UINT32_MAX;
+        least[i] = 0;
+    }
+    CHECK(gerzulan_total(16, most, 16, UINT16_MAX, least, 16, &sum) == 0 && sum == 16 * (uint64_t)UINT32_MAX);
+    CHECK(gerzulan_total(16, least, 16, 0, most, 16, &sum) == 0 && sum == 16 * (uint64_t)UINT32_MAX);
+    CHECK(gerzulan_total(16, least, 16, UINT16_MAX, most, 16, &sum) == 0 && sum == 0);
     return 0;
 }
 
@@ -164,7 +191,7 @@ static int decided_byte(void) {
 }
 
 int main(void) {
-    if (one_by_one() || by_runs() || agreed() || last_round() || reads() || decided_byte()) {
+    if (one_by_one() || by_runs() || agreed() || last_round() || reads() || totals() || decided_byte()) {
         return 1;
     }
     puts("ok");

@@ -87,8 +87,10 @@ uint64_t gerzulan_bench_global_data(const struct gerzulan_bench *bench, uint8_t 
 /* Writes sender, receiver and round of each message in transit, a byte each, and gives how many there are. Refusals 2, 10. */
 uint64_t gerzulan_bench_in_transit(const struct gerzulan_bench *bench, uint8_t *out, size_t length);
 
-/* Aggregates of n entries with their marks: 0, and the words after them are written; or a refusal, 1, 5, 10 or 12. */
-uint32_t gerzulan_total(uint8_t n, const uint32_t *entries, size_t length, uint16_t marks, uint64_t *sum);
+/* Aggregates of n entries with their marks: 0, and the words after them are written; or a refusal, 1, 5, 10 or 12. No word under an absent
+ * entry is read. The total is lent n standing values too, one a process, and counts an absent entry as its process's; it reads no other. */
+uint32_t gerzulan_total(uint8_t n, const uint32_t *entries, size_t length, uint16_t marks, const uint32_t *standing,
+                        size_t standing_length, uint64_t *sum);
 uint32_t gerzulan_go(uint8_t n, const uint32_t *entries, size_t length, uint16_t marks, uint8_t *go);
 uint32_t gerzulan_lead(uint8_t n, const uint32_t *entries, size_t length, uint16_t marks, uint8_t *process,
                        uint32_t *value);

@@ -144,3 +144,39 @@ try none-where-a-run-ends-refused src/run.rs \
 try refused-close-counts-in-a-run src/run.rs \
     'Err(refusal) => break Cause::Refused(refusal.number()),' \
     'Err(refusal) => { if refusal == Refusal::Waiting { closing = Closing::NextRound; } break Cause::Refused(refusal.number()); }'
+
+# Standing values in the total.
+try absent-as-nought src/aggregates.rs \
+    'let value = |i: usize| if present & bit(i) != 0 { entries[i] } else { standing[i] };' \
+    'let value = |i: usize| if present & bit(i) != 0 { entries[i] } else { 0 };'
+try word-under-absent src/aggregates.rs \
+    'let value = |i: usize| if present & bit(i) != 0 { entries[i] } else { standing[i] };' \
+    'let value = |i: usize| entries[i];'
+try present-as-standing src/aggregates.rs \
+    'let value = |i: usize| if present & bit(i) != 0 { entries[i] } else { standing[i] };' \
+    'let value = |i: usize| standing[i];'
+try present-zero-as-standing src/aggregates.rs \
+    'let value = |i: usize| if present & bit(i) != 0 { entries[i] } else { standing[i] };' \
+    'let value = |i: usize| if present & bit(i) != 0 && entries[i] != 0 { entries[i] } else { standing[i] };'
+try neighbours-standing src/aggregates.rs \
+    'let value = |i: usize| if present & bit(i) != 0 { entries[i] } else { standing[i] };' \
+    'let value = |i: usize| if present & bit(i) != 0 { entries[i] } else { standing[(i + 1) % n as usize] };'
+try standing-taken-in-turn src/aggregates.rs \
+    'let value = |i: usize| if present & bit(i) != 0 { entries[i] } else { standing[i] };' \
+    'let value = |i: usize| if present & bit(i) != 0 { entries[i] } else { standing[(!present & (bit(i) - 1)).count_ones() as usize] };'
+try total-of-32-bits src/aggregates.rs \
+    'Ok((0..n as usize).map(|i| value(i) as u64).sum())' 'Ok((0..n as usize).map(value).fold(0, u32::wrapping_add) as u64)'
+try standing-length-unchecked src/aggregates.rs \
+    'if standing.len() != n as usize {' 'if false {'
+try standing-length-at-least-n src/aggregates.rs \
+    'if standing.len() != n as usize {' 'if standing.len() < n as usize {'
+try standing-length-at-most-n src/aggregates.rs \
+    'if standing.len() != n as usize {' 'if standing.len() > n as usize {'
+try standing-length-only-where-read src/aggregates.rs \
+    'if standing.len() != n as usize {' 'if present != all(n) && standing.len() != n as usize {'
+try standing-length-before-1 src/aggregates.rs \
+    'pub fn total(n: u8, entries: &[u32], present: u16, standing: &[u32]) -> Result<u64, Refusal> {' \
+    'pub fn total(n: u8, entries: &[u32], present: u16, standing: &[u32]) -> Result<u64, Refusal> { if standing.len() != n as usize { return Err(Refusal::Slice); }'
+try standing-length-before-5 src/aggregates.rs \
+    'pub fn total(n: u8, entries: &[u32], present: u16, standing: &[u32]) -> Result<u64, Refusal> {' \
+    'pub fn total(n: u8, entries: &[u32], present: u16, standing: &[u32]) -> Result<u64, Refusal> { check_n(n)?; if standing.len() != n as usize { return Err(Refusal::Slice); }'

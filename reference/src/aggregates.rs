@@ -1,10 +1,10 @@
 //! Aggregates of global data (paper: sums): n entries and their marks. No word under an absent entry is read.
 
-use crate::layout::{all, check_n, members};
+use crate::layout::{all, bit, check_n, members};
 use crate::record::index;
 use crate::Refusal;
 
-/// Checks 1, 5 and 10.
+/// Checks 1, 5 and 10 of the entries.
 fn check(n: u8, entries: &[u32], present: u16) -> Result<(), Refusal> {
     check_n(n)?;
     if present & !all(n) != 0 {
@@ -16,10 +16,15 @@ fn check(n: u8, entries: &[u32], present: u16) -> Result<(), Refusal> {
     Ok(())
 }
 
-/// The sum; absent entries add nothing.
-pub fn total(n: u8, entries: &[u32], present: u16) -> Result<u64, Refusal> {
+/// The sum, where an absent entry counts as the standing value of its own process. Other standing values are not read,
+/// but a list not of n is refused with 10, also where no entry is absent.
+pub fn total(n: u8, entries: &[u32], present: u16, standing: &[u32]) -> Result<u64, Refusal> {
     check(n, entries, present)?;
-    Ok(members(present).map(|i| entries[i] as u64).sum())
+    if standing.len() != n as usize {
+        return Err(Refusal::Slice);
+    }
+    let value = |i: usize| if present & bit(i) != 0 { entries[i] } else { standing[i] };
+    Ok((0..n as usize).map(|i| value(i) as u64).sum())
 }
 
 /// No entry is absent and each is at least 1.
@@ -57,11 +62,49 @@ mod tests {
 
     const MAX: u32 = u32::MAX;
 
+    const GREATEST: u64 = 16 * MAX as u64;
+
+    /// Each standing value is a power of 2, so that the sum tells which were read.
     #[test]
-    fn total_sums_present_entries() {
-        assert_eq!(total(3, &[1, 99, 3], 0b101), Ok(4));
-        assert_eq!(total(3, &[1, 99, 3], 0), Ok(0));
-        assert_eq!(total(16, &[MAX; 16], 0xffff), Ok(16 * MAX as u64));
+    fn an_absent_entry_is_its_standing_value() {
+        let standing: [u32; 16] = std::array::from_fn(|i| 1 << i);
+        for present in 0..=u16::MAX {
+            assert_eq!(total(16, &[0; 16], present, &standing), Ok(!present as u64));
+        }
+        assert_eq!(total(3, &[100, 0, 300], 0b101, &[1, 20, 3]), Ok(420));
+        assert_eq!(total(3, &[0, 200, 0], 0b010, &[1, 20, 3]), Ok(204));
+        assert_eq!(total(1, &[0], 0, &[7]), Ok(7));
+    }
+
+    /// Also an entry of 0.
+    #[test]
+    fn a_present_entry_is_its_value() {
+        let entries: [u32; 16] = std::array::from_fn(|i| 1 << i);
+        for present in 0..=u16::MAX {
+            assert_eq!(total(16, &entries, present, &[0; 16]), Ok(present as u64));
+        }
+        assert_eq!(total(3, &[100, 0, 300], 0b111, &[1, 20, 3]), Ok(400));
+    }
+
+    /// Other words under absent entries, and other standing values of present ones.
+    #[test]
+    fn total_reads_one_word_for_each_process() {
+        for word in [0, 1, 0xa5a5_a5a5, MAX] {
+            assert_eq!(total(4, &[100, word, 300, word], 0b0101, &[word, 20, word, 40]), Ok(460));
+            assert_eq!(total(2, &[word; 2], 0, &[1, 2]), Ok(3));
+            assert_eq!(total(2, &[1, 2], 0b11, &[word; 2]), Ok(3));
+        }
+    }
+
+    #[test]
+    fn the_greatest_total() {
+        for present in [0xffff, 0, 0x0ff0, 0x5555, 1, 0x8000] {
+            let word = |read: bool| if read { MAX } else { 0 };
+            let entries: [u32; 16] = std::array::from_fn(|i| word(present & bit(i) != 0));
+            let standing = entries.map(|entry| word(entry == 0));
+            assert_eq!(total(16, &entries, present, &standing), Ok(GREATEST), "{present:x}");
+        }
+        assert_eq!(total(16, &[MAX; 16], 0x00ff, &[MAX; 16]), Ok(GREATEST));
     }
 
     #[test]
@@ -89,11 +132,37 @@ mod tests {
     }
 
     #[test]
+    fn total_needs_n_of_each() {
+        for present in 0..4 {
+            for wrong in [0, 1, 3, 16, 17, 255, 256 + 2] {
+                let list = vec![9; wrong];
+                assert_eq!(total(2, &[9; 2], present, &list), Err(Refusal::Slice), "standing {wrong}");
+                assert_eq!(total(2, &list, present, &[9; 2]), Err(Refusal::Slice), "entries {wrong}");
+                assert_eq!(total(2, &list, present, &list), Err(Refusal::Slice), "both {wrong}");
+            }
+            // Four words in all, but not two of each.
+            assert_eq!(total(2, &[9; 1], present, &[9; 3]), Err(Refusal::Slice));
+            assert_eq!(total(2, &[9; 3], present, &[9; 1]), Err(Refusal::Slice));
+        }
+    }
+
+    /// A bad n, then bad marks, is told before a list of the wrong length.
+    #[test]
+    fn total_refuses_in_order() {
+        for lists in [[0, 0], [2, 2], [2, 1], [2, 3], [2, 0], [1, 2], [3, 2], [1, 1], [1, 3], [17, 17]] {
+            let [entries, standing] = lists.map(|length| vec![9; length]);
+            for n in [0, 17, 255] {
+                assert_eq!(total(n, &entries, 0, &standing), Err(Refusal::Size), "{n} {lists:?}");
+                assert_eq!(total(n, &entries, 0xffff, &standing), Err(Refusal::Size), "{n} {lists:?}");
+            }
+            for present in [4, 7, 0x8000] {
+                assert_eq!(total(2, &entries, present, &standing), Err(Refusal::Field), "{lists:?}");
+            }
+        }
+    }
+
+    #[test]
     fn refusals_in_order() {
-        assert_eq!(total(0, &[], 1), Err(Refusal::Size));
-        assert_eq!(total(17, &[0; 17], 0), Err(Refusal::Size));
-        assert_eq!(total(2, &[0; 3], 4), Err(Refusal::Field));
-        assert_eq!(total(2, &[0; 3], 3), Err(Refusal::Slice));
         assert_eq!(go(2, &[0; 1], 3), Err(Refusal::Slice));
         assert_eq!(lead(2, &[0; 1], 0), Err(Refusal::Slice));
         assert_eq!(change(2, &[0; 1], 0, 3, 0), Err(Refusal::Field));

@@ -3,9 +3,9 @@
 
 use crate::check::check_closing;
 use crate::gen::{self, Accepted, Adversary, Rng};
-use crate::layout::members;
+use crate::layout::{bit, members};
 use crate::met::{
-    call, Met, GLOBAL_DATA, IN_TRANSIT, OF_BOTH_GROUNDS, OF_RECORD, OF_RUN, RUN, TELLING, WAITING,
+    call, Lists, Met, GLOBAL_DATA, IN_TRANSIT, OF_BOTH_GROUNDS, OF_RECORD, OF_RUN, RUN, TELLING, WAITING,
 };
 use crate::proved::Progress;
 use crate::record::index;
@@ -58,8 +58,8 @@ impl Pair {
         std::array::from_fn(|i| (self.proved.processes[i].round, self.proved.processes[i].decided))
     }
 
-    /// After a record: 1 where it has decided a process, else as before. A close that decides opens no round; a decision
-    /// that arrives decides one that has started.
+    /// After a record: 1 where it has decided a process, else as before. A close that decides opens no round; a
+    /// decision that arrives decides one that has started.
     fn same_bytes(&self, before: &[(u8, u8); Bench::MAX], record: &[u8], accepted: bool) {
         for (i, &(round, byte)) in before.iter().enumerate() {
             let p = &self.proved.processes[i];
@@ -295,29 +295,90 @@ impl Pair {
         self.same_state("state after reading");
     }
 
-    /// The four aggregates, each with a lent word that a refusal must leave.
+    /// The four aggregates, with any standing values.
     fn aggregates(&mut self, rng: &mut Rng, n: u8, entries: &[u32], marks: u16) {
-        let (standing, old) = (rng.value(), rng.draw());
-        let process = rng.pick(&[0, 1, 2, n, n.wrapping_add(1), old as u8]);
-        let (mut sum, mut went, mut leader, mut value, mut moved) =
-            (old, old as u8, old as u8, old as u32, old as i64);
-        let total = proved::total(n, entries, marks, &mut sum);
-        let go = proved::go(n, entries, marks, &mut went);
-        let lead = proved::lead(n, entries, marks, &mut leader, &mut value);
-        let change = proved::change(n, entries, marks, process, standing, &mut moved);
-        let plain_total = aggregates::total(n, entries, marks);
-        let plain_go = aggregates::go(n, entries, marks);
-        let plain_lead = aggregates::lead(n, entries, marks);
-        let plain_change = aggregates::change(n, entries, marks, process, standing);
-        self.calls += 4;
-        let numbers = [number(&plain_total), number(&plain_go), number(&plain_lead), number(&plain_change)];
-        numbers.iter().for_each(|&refused| self.met.answer(refused));
-        self.same("aggregates", [total, go, lead, change], numbers.map(u32::from));
-        self.same("total", sum, plain_total.unwrap_or(old));
-        self.same("go", went, plain_go.map_or(old as u8, u8::from));
-        self.same("lead", (leader, value), plain_lead.unwrap_or((old as u8, old as u32)));
-        self.same("change", moved, plain_change.unwrap_or(old as i64));
+        let asked = Asked::any(rng, n);
+        // From another generator, so that what `rng` draws next does not hang on this list.
+        let standing = gen::standing(&mut Rng::new(asked.old), n);
+        self.aggregates_of(Lists { n, entries, marks, standing: &standing }, asked);
     }
+
+    /// The four aggregates of these lists; once more with other words where none is read, which must not show.
+    fn aggregates_of(&mut self, lists: Lists, asked: Asked) {
+        let (proved, plain) = (proved_aggregates(lists, asked), plain_aggregates(lists, asked));
+        self.calls += 4;
+        plain.answers.iter().for_each(|&refused| self.met.answer(refused as u8));
+        self.same("aggregates", proved.answers, plain.answers);
+        self.same("total", proved.total, plain.total);
+        self.same("go", proved.go, plain.go);
+        self.same("lead", proved.lead, plain.lead);
+        self.same("change", proved.change, plain.change);
+        self.met.totals.count(&lists, plain.answers[0], plain.total);
+        let (entries, standing) = other_words(lists);
+        let others = Lists { entries: &entries, standing: &standing, ..lists };
+        self.same("aggregates with other words where none is read", proved_aggregates(others, asked), plain);
+    }
+}
+
+/// What change is asked of, and what each lent word holds before, which a refusal must leave.
+#[derive(Clone, Copy)]
+struct Asked {
+    process: u8,
+    standing: u32,
+    old: u64,
+}
+
+impl Asked {
+    fn any(rng: &mut Rng, n: u8) -> Asked {
+        let (standing, old) = (rng.value(), rng.draw());
+        Asked { process: rng.pick(&[0, 1, 2, n, n.wrapping_add(1), old as u8]), standing, old }
+    }
+}
+
+/// The answers of total, go, lead and change, and the words lent to each after it.
+#[derive(PartialEq, Debug)]
+struct Aggregates {
+    answers: [u32; 4],
+    total: u64,
+    go: u8,
+    lead: (u8, u32),
+    change: i64,
+}
+
+fn proved_aggregates(Lists { n, entries, marks, standing }: Lists, asked: Asked) -> Aggregates {
+    let old = asked.old;
+    let (mut total, mut go, mut lead, mut change) = (old, old as u8, (old as u8, old as u32), old as i64);
+    let answers = [
+        proved::total(n, entries, marks, standing, &mut total),
+        proved::go(n, entries, marks, &mut go),
+        proved::lead(n, entries, marks, &mut lead.0, &mut lead.1),
+        proved::change(n, entries, marks, asked.process, asked.standing, &mut change),
+    ];
+    Aggregates { answers, total, go, lead, change }
+}
+
+fn plain_aggregates(Lists { n, entries, marks, standing }: Lists, asked: Asked) -> Aggregates {
+    let old = asked.old;
+    let total = aggregates::total(n, entries, marks, standing);
+    let go = aggregates::go(n, entries, marks);
+    let lead = aggregates::lead(n, entries, marks);
+    let change = aggregates::change(n, entries, marks, asked.process, asked.standing);
+    Aggregates {
+        answers: [number(&total), number(&go), number(&lead), number(&change)].map(u32::from),
+        total: total.unwrap_or(old),
+        go: go.map_or(old as u8, u8::from),
+        lead: lead.unwrap_or((old as u8, old as u32)),
+        change: change.unwrap_or(old as i64),
+    }
+}
+
+/// Entries and standing values with another word under each absent entry, and for each present one's standing value.
+fn other_words(lists: Lists) -> (Vec<u32>, Vec<u32>) {
+    let other = |list: &[u32], under: bool| -> Vec<u32> {
+        let present = |i| i < Bench::MAX && lists.marks & bit(i) != 0;
+        list.iter().enumerate().map(|(i, &word)| if present(i) == under { !word } else { word }).collect()
+    };
+    (other(lists.entries, false), other(lists.standing, true))
 }
 
 /// Opening in place of some state: every n and t.
@@ -491,7 +552,21 @@ pub fn any_aggregates(seed: u64) -> Met {
         let marks = if rng.percent(30) { among } else { rng.subset(among) };
         pair.aggregates(&mut rng, n, &entries, marks);
     }
+    greatest_totals(&mut pair, &mut rng);
     pair.met
+}
+
+/// Of 16 present, of 16 absent and of both, the largest value wherever one is read.
+fn greatest_totals(pair: &mut Pair, rng: &mut Rng) {
+    let both = (rng.draw() as u16 | 2) & !1;
+    for marks in [u16::MAX, 0, both] {
+        let mut words = |read: u16| -> Vec<u32> {
+            (0..16).map(|i| if read & bit(i) != 0 { u32::MAX } else { rng.draw() as u32 }).collect()
+        };
+        let (entries, standing) = (words(marks), words(!marks));
+        let asked = Asked::any(rng, 16);
+        pair.aggregates_of(Lists { n: 16, entries: &entries, marks, standing: &standing }, asked);
+    }
 }
 
 /// Everything, for every n and t, from one seed: `schedules` schedules of each kind for each size.

@@ -1,4 +1,4 @@
-//! Random schedules and states, each from one seed.
+//! Random schedules, states and standing values, each from one seed.
 
 use crate::layout::{all, bit, members};
 use crate::{Bench, GlobalData, Process, Record};
@@ -371,6 +371,22 @@ fn random_data(rng: &mut Rng, everyone: u16) -> GlobalData {
     data
 }
 
+/// Standing values for n processes: mostly n of them, sometimes one less, one more, none or another number; in half of
+/// the lists no two are equal.
+pub fn standing(rng: &mut Rng, n: u8) -> Vec<u32> {
+    let n = n as usize;
+    let any = rng.below(20);
+    let length = rng.pick(&[n, n, n, n, n, n.saturating_sub(1), n + 1, 0, any]);
+    if rng.percent(50) {
+        return (0..length).map(|_| rng.value()).collect();
+    }
+    // An odd step does not come round; a step of 1 from near the end has the largest value and 0 side by side.
+    let draw = rng.draw();
+    let (first, step) =
+        rng.pick(&[(u32::MAX - (draw % 16) as u32, 1), (draw as u32, (draw >> 32) as u32 | 1)]);
+    (0..length as u32).map(|i| first.wrapping_add(step.wrapping_mul(i))).collect()
+}
+
 /// Makes a sound state unsound in one place.
 pub fn damage(rng: &mut Rng, bench: &mut Bench) {
     let past = if bench.n < 16 { bit(bench.n as usize + rng.below(16 - bench.n as usize)) } else { 0 };
@@ -430,6 +446,19 @@ mod tests {
             state.processes.iter().for_each(|p| drawn[p.decided as usize] = true);
         }
         assert!(drawn.iter().all(|drawn| *drawn));
+    }
+
+    #[test]
+    fn standing_lists() {
+        let mut rng = Rng::new(10);
+        let lists: Vec<Vec<u32>> = (0..2000).map(|_| standing(&mut rng, 12)).collect();
+        for length in [0, 11, 12, 13, 19] {
+            assert!(lists.iter().any(|list| list.len() == length), "{length}");
+        }
+        let different = |list: &&Vec<u32>| (1..list.len()).all(|i| !list[..i].contains(&list[i]));
+        let both_ends = |list: &Vec<u32>| list.contains(&0) && list.contains(&u32::MAX);
+        assert!(lists.iter().filter(|list| list.len() == 12).filter(different).any(both_ends));
+        assert!(lists.iter().filter(different).count() >= lists.len() / 2 - 100);
     }
 
     /// `Accepted` names exactly what `step` accepts, on reached states and on others.

@@ -1,9 +1,11 @@
 //! What the differential test has met, so that it can tell what it has not.
 
+use crate::layout::{all, members};
 use crate::{Closing, Event, Message};
+use std::cmp::Ordering::{self, Equal, Greater, Less};
 use std::ops::Range;
 
-/// What was met: records given, answers by their number, 0 for none refused, closings, and bytes in `decided`.
+/// What was met: records given, answers by their number, 0 for none refused, closings, bytes in `decided`, and totals.
 #[derive(Clone, Default, Debug)]
 pub struct Met {
     pub records: u64,
@@ -11,6 +13,7 @@ pub struct Met {
     pub answers: [u64; 13],
     pub closings: Closings,
     pub bytes: Bytes,
+    pub totals: Totals,
 }
 
 /// How often each closing was met, by its number, and where, as in `ENDS`.
@@ -30,6 +33,46 @@ pub const OF_RECORD: usize = 0;
 pub const OF_RUN: usize = 2;
 pub const OF_BOTH_GROUNDS: usize = 4;
 
+/// How often each of `TOTALS` was met.
+#[derive(Clone, Default, Debug)]
+pub struct Totals([u64; TOTALS.len()]);
+
+/// What the aggregates are given; total alone takes the standing values.
+#[derive(Clone, Copy)]
+pub struct Lists<'a> {
+    pub n: u8,
+    pub entries: &'a [u32],
+    pub marks: u16,
+    pub standing: &'a [u32],
+}
+
+/// Whether a total was one of these, by what it was given, its refusal or 0, and its sum.
+type Meets = fn(&Lists, u32, u64) -> bool;
+
+/// What total can meet.
+const TOTALS: [(&str, Meets); 12] = [
+    ("n and standing wrong", |x, refused, _| refused == 1 && x.lengths().1 != Equal),
+    ("marks and standing wrong", |x, refused, _| refused == 5 && x.lengths().1 != Equal),
+    ("both lists wrong", |x, refused, _| refused == 10 && x.lengths().0 != Equal && x.lengths().1 != Equal),
+    ("entries alone short", |x, refused, _| refused == 10 && x.lengths() == (Less, Equal)),
+    ("entries alone long", |x, refused, _| refused == 10 && x.lengths() == (Greater, Equal)),
+    ("standing alone short", |x, refused, _| refused == 10 && x.lengths() == (Equal, Less)),
+    ("standing alone long", |x, refused, _| refused == 10 && x.lengths() == (Equal, Greater)),
+    ("standing wrong though unread", |x, refused, _| {
+        refused == 10 && x.lengths().0 == Equal && x.marks == all(x.n)
+    }),
+    // Not the greatest, for which `compare` chooses the standing values.
+    ("absent with standing not 0", |x, refused, sum| {
+        refused == 0 && sum < GREATEST && members(all(x.n) & !x.marks).any(|i| x.standing[i] != 0)
+    }),
+    ("greatest of all present", |x, refused, sum| refused == 0 && sum == GREATEST && x.marks == u16::MAX),
+    ("greatest of all absent", |x, refused, sum| refused == 0 && sum == GREATEST && x.marks == 0),
+    ("greatest of both", |x, refused, sum| {
+        refused == 0 && sum == GREATEST && !matches!(x.marks, 0 | u16::MAX)
+    }),
+];
+const GREATEST: u64 = 16 * u32::MAX as u64;
+
 /// How often each byte in `decided` was met, by call and by what came of it, as in `CALLS`.
 #[derive(Clone, Debug)]
 pub struct Bytes(Vec<[[u64; 256]; 3]>);
@@ -37,8 +80,9 @@ pub struct Bytes(Vec<[[u64; 256]; 3]>);
 const ALL: Range<usize> = 0..256;
 const NONE: Range<usize> = 0..0;
 
-/// The calls that meet the byte of a process, and the bytes with which each can be accepted, refused and telling. A call
-/// is telling where 0 and 1 differ in more than the byte; a close of that kind is accepted with 0, or waits (refusal 8).
+/// The calls that meet the byte of a process, and the bytes with which each can be accepted, refused and telling. A
+/// call is telling where 0 and 1 differ in more than the byte; a close of that kind is accepted with 0, or waits
+/// (refusal 8).
 const CALLS: [(&str, [Range<usize>; 3]); 11] = [
     ("start", [ALL, ALL, NONE]),
     ("send", [ALL, ALL, ALL]),
@@ -139,6 +183,35 @@ impl Closings {
     }
 }
 
+impl Lists<'_> {
+    /// The lengths of entries and of standing values beside n.
+    fn lengths(&self) -> (Ordering, Ordering) {
+        let n = self.n as usize;
+        (self.entries.len().cmp(&n), self.standing.len().cmp(&n))
+    }
+}
+
+impl Totals {
+    pub fn count(&mut self, lists: &Lists, refused: u32, sum: u64) {
+        let counts = self.0.iter_mut().zip(TOTALS);
+        counts.for_each(|(count, (_, met))| *count += u64::from(met(lists, refused, sum)));
+    }
+
+    fn add(&mut self, other: &Totals) {
+        self.0.iter_mut().zip(other.0).for_each(|(sum, more)| *sum += more);
+    }
+
+    /// What could be met and was not.
+    pub fn missing(&self) -> Vec<&'static str> {
+        TOTALS.iter().zip(self.0).filter(|(_, count)| *count == 0).map(|((name, _), _)| *name).collect()
+    }
+
+    fn report(&self) -> String {
+        let line = |((name, _), count): (&(&str, _), u64)| format!("{name} {count}");
+        TOTALS.iter().zip(self.0).map(line).collect::<Vec<String>>().join(", ")
+    }
+}
+
 impl Met {
     pub fn answer(&mut self, number: u8) {
         self.answers[number as usize] += 1;
@@ -149,6 +222,7 @@ impl Met {
         self.accepted += other.accepted;
         self.closings.add(&other.closings);
         self.bytes.add(&other.bytes);
+        self.totals.add(&other.totals);
         for (sum, more) in self.answers.iter_mut().zip(other.answers) {
             *sum += more;
         }
@@ -163,11 +237,12 @@ impl Met {
         let refusals: Vec<String> =
             (1..=12).map(|number| format!("{number}: {}", self.answers[number])).collect();
         format!(
-            "{} records, {} accepted; refusals {}; closings {}",
+            "{} records, {} accepted; refusals {}; closings {}; totals {}",
             self.records,
             self.accepted,
             refusals.join(", "),
-            self.closings.report()
+            self.closings.report(),
+            self.totals.report()
         )
     }
 }

@@ -46,7 +46,15 @@ mod library {
         ) -> u32;
         pub fn gerzulan_bench_global_data(bench: &Bench, process: u8, out: *mut u32, length: usize) -> u64;
         pub fn gerzulan_bench_in_transit(bench: &Bench, out: *mut u8, length: usize) -> u64;
-        pub fn gerzulan_total(n: u8, entries: *const u32, length: usize, marks: u16, sum: &mut u64) -> u32;
+        pub fn gerzulan_total(
+            n: u8,
+            entries: *const u32,
+            length: usize,
+            marks: u16,
+            standing: *const u32,
+            standing_length: usize,
+            sum: &mut u64,
+        ) -> u32;
         pub fn gerzulan_go(n: u8, entries: *const u32, length: usize, marks: u16, go: &mut u8) -> u32;
         pub fn gerzulan_lead(
             n: u8,
@@ -120,9 +128,12 @@ pub fn in_transit(bench: &Bench, out: &mut [u8]) -> Result<usize, u32> {
     given(answer).map(|messages| messages as usize)
 }
 
-pub fn total(n: u8, entries: &[u32], marks: u16, sum: &mut u64) -> u32 {
-    // SAFETY: the slice is passed whole.
-    unsafe { library::gerzulan_total(n, entries.as_ptr(), entries.len(), marks, sum) }
+pub fn total(n: u8, entries: &[u32], marks: u16, standing: &[u32], sum: &mut u64) -> u32 {
+    let (length, standing_length) = (entries.len(), standing.len());
+    // SAFETY: the slices are passed whole.
+    unsafe {
+        library::gerzulan_total(n, entries.as_ptr(), length, marks, standing.as_ptr(), standing_length, sum)
+    }
 }
 
 /// 1 for go, else 0.

@@ -1,5 +1,7 @@
-//! Cases 1 to 8 of the paper, the examples of its table of refusals, its five slips, and how rounds end.
+//! Cases 1 to 8 of the paper, the examples of its table of refusals, its five slips, how rounds end, and totals of what
+//! is decided.
 
+use reference::aggregates::total;
 use reference::refusal::number;
 use reference::simulate::simulate;
 use reference::text::encode;
@@ -164,12 +166,18 @@ fn case_5_sizes() {
     assert_eq!(Bench::open(0, 0), Err(Refusal::Size));
 }
 
-#[test]
-fn case_6_crash_limit() {
+/// Its record 10 is refused.
+fn after_case_4() -> Bench {
     let mut bench = Bench::open(2, 1).unwrap();
     for record in CASE_4[8..].chunks(8) {
         let _ = bench.step(record);
     }
+    bench
+}
+
+#[test]
+fn case_6_crash_limit() {
+    let bench = after_case_4();
     assert_eq!(answer(&bench, "stop 1"), 9);
     assert_eq!(answer(&bench, "stop 2"), 6);
 }
@@ -203,16 +211,34 @@ fn case_8_equal_estimates_are_not_enough() {
 }
 
 /// Case 8 goes on: in round 3, which is t+1, the sets of 1 and all estimates are equal too.
+const CASE_8_ENDS: &str = "close 1\narrive 1 3 round 2\nclose 3\nsend 1 3\nsend 3 1\narrive 3 1 round 3\n";
+
 #[test]
 fn both_grounds_are_the_last_round() {
-    let more = "close 1\narrive 1 3 round 2\nclose 3\nsend 1 3\nsend 3 1\narrive 3 1 round 3\n";
-    let before = after(&(CASE_8.to_string() + more));
+    let before = after(&(CASE_8.to_string() + CASE_8_ENDS));
     assert!(before.both_grounds(0) && !before.both_grounds(2));
     assert_eq!({ before }.step(&Record::close(1).bytes()), Ok(LastRound));
     // Alone, the one round is the last and all estimates are equal in it.
     let alone = after("open 1 0\nstart 1 7");
     assert!(alone.both_grounds(0));
     assert_eq!(run(&alone, "close 1"), LastRound);
+}
+
+/// In case 8, 2 crashed before it started, so its entry is absent from what 1 decides; in case 4 none is.
+#[test]
+fn totals_of_decided_data() {
+    let total_of = |bench: &Bench, standing: &[u32]| {
+        let mut out = [9; 3];
+        let marks = bench.global_data(1, &mut out)?;
+        total(bench.n, &out[..bench.n as usize], marks, standing)
+    };
+    let bench = after(&(CASE_8.to_string() + CASE_8_ENDS + "close 1"));
+    assert_eq!(bench.decision(1), Ok(data(&[Some(1), None, Some(3)])));
+    assert_eq!(total_of(&bench, &[100, 20, 300]), Ok(24));
+    assert_eq!(total_of(&bench, &[100, 20]), Err(Refusal::Slice));
+
+    assert_eq!(total_of(&after_case_4(), &[100, 20]), Ok(65));
+    assert_eq!(total_of(&after_case_4(), &[100, 20, 300]), Err(Refusal::Slice));
 }
 
 /// 3 never expects 2, and 1 does in round 1: in round 2 the sets of 3 are equal and those of 1 differ.

@@ -18,6 +18,8 @@ fn proved_library_and_reference_agree() {
     assert!(met.missing().is_empty(), "refusals not met: {:?}", met.missing());
     let missing = met.closings.missing();
     assert!(missing.is_empty(), "closings not met: {missing:?}");
+    let missing = met.totals.missing();
+    assert!(missing.is_empty(), "totals not met: {missing:?}");
 }
 
 #[test]

@@ -33,7 +33,7 @@ unless number answer = choose (same number 0) answer (refused number)
 
 -- ---- what each gives, of n entries
 
--- absent as the standing value of its process (C-12: a blank school still eats)
+-- absent as the standing value of its process (request C-12)
 abbrev pub total : ℕ → (ℕ → ℕ) → (ℕ → Entry) → ℕ
 total n standing entry = sumTo n (λ i. countsFor (standing i) (entry i))
 

@@ -13,7 +13,7 @@ use Rattle.global_data.specs.declared.Entry.the-variants.{Absent, Value}
 unfoldable pub entryAt : List ℕ → ℕ → ℕ → Entry
 entryAt entries marks i = entry (has marks i) (getD entries i 0)
 
--- The standing value (C-12: standing count) of process i, from 0.
+-- The standing value (request C-12: standing count) of process i, from 0.
 abbrev pub standingAt : List ℕ → ℕ → ℕ
 standingAt standing i = getD standing i 0
 

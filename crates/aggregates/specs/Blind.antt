@@ -1,5 +1,6 @@
--- Nothing under an absent entry is read, and no standing value of a present one: entries that agree under the present
--- marks have one view, by which each call answers; and standing values that agree where no mark is set add up alike.
+-- Of any call, refused or not: nothing under an absent entry is read, and no standing value of a present one.
+-- Entries that agree under the present marks have one view, by which each call answers; standing values that agree
+-- where no mark is set add up alike.
 use mathlib.Core.Path.{_≡_, sym, _∙_, ap, fun-ext}
 use mathlib.Core.Logic.{_⊎_, inl, inr}
 use mathlib.Core.Bool.{Bool, true, not}
@@ -19,53 +20,52 @@ use Rattle.aggregates.specs.Aggregates.{refusalOf, unless, total, go, le
 use Rattle.aggregates.specs.Aggregates.{changed, totalOf, goOf, leadOf, changeOf}
 use Rattle.aggregates.specs.TotalLaws.{counts-is}
 
--- n words each, the same where a test holds
-pub record Alike (n : ℕ) (read : ℕ → Bool) (xs ys : List ℕ) : Type 0 where
-  pub long : length xs ≡ n
-  pub long′ : length ys ≡ n
-  pub words : (i : ℕ) → i < n → read i ≡ true → getD xs i 0 ≡ getD ys i 0
+-- as many words, the same where a test holds
+pub record Alike (read : ℕ → Bool) (xs ys : List ℕ) : Type 0 where
+  pub long : length xs ≡ length ys
+  pub words : (i : ℕ) → i < length xs → read i ≡ true → getD xs i 0 ≡ getD ys i 0
 
--- past n both are 0
-module _ (n : ℕ) (read : ℕ → Bool) (xs ys : List ℕ) (h : Alike n read xs ys) where
-  word-by : (i : ℕ) → read i ≡ true → (n ≤ i) ⊎ (i < n) → getD xs i 0 ≡ getD ys i 0
+-- past their ends both are 0
+module _ (read : ℕ → Bool) (xs ys : List ℕ) (h : Alike read xs ys) where
+  word-by : (i : ℕ) → read i ≡ true → (length xs ≤ i) ⊎ (i < length xs) → getD xs i 0 ≡ getD ys i 0
   word-by i e (inl past) =
-      List·getD-eq-default xs 0 (omega (arith, h .long)) ∙ sym (List·getD-eq-default ys 0 (omega (arith, h .long′)))
+      List·getD-eq-default xs 0 past ∙ sym (List·getD-eq-default ys 0 (omega (arith, h .long)))
   word-by i e (inr l) = h .words i l e
 
   word : (i : ℕ) → read i ≡ true → getD xs i 0 ≡ getD ys i 0
-  word i e = word-by i e (le-or n i)
+  word i e = word-by i e (le-or (length xs) i)
 
 -- standing values that agree where no mark is set
-module _ (n marks : ℕ) (ss ts : List ℕ) (h : Alike n (λ i. not (has marks i)) ss ts) where
+module _ (n marks : ℕ) (ss ts : List ℕ) (h : Alike (λ i. not (has marks i)) ss ts) where
   counted : (entries : List ℕ) (i : ℕ) → Is (has marks i)
       → countsFor (standingAt ss i) (entryAt entries marks i) ≡ countsFor (standingAt ts i) (entryAt entries marks i)
   counted entries i (on e) =
       counts-is entries marks i _ ∙ choose-on _ _ _ e ∙ sym (counts-is entries marks i _ ∙ choose-on _ _ _ e)
-  counted entries i (off e) = ap (λ s. countsFor s (entryAt entries marks i)) (word n _ ss ts h i (ap not e))
+  counted entries i (off e) = ap (λ s. countsFor s (entryAt entries marks i)) (word _ ss ts h i (ap not e))
 
   pub standing-blind : (entries : List ℕ) → totalOf n entries marks ss ≡ totalOf n entries marks ts
   unfolding totalOf
   standing-blind entries =
       ap (unless (refusalOf n marks true (length entries)))
       (ap (λ l. unless (check (same l n) 10 0) (gives (total n (standingAt ss) (entryAt entries marks))))
-      (h .long ∙ sym (h .long′))
+      (h .long)
       ∙ ap (λ f. unless (check (same (length ts) n) 10 0) (gives (sumTo n f)))
       (fun-ext (λ i. counted entries i (is (has marks i)))))
 
 -- entries that agree where a mark is set
-module _ (n marks : ℕ) (xs ys : List ℕ) (h : Alike n (has marks) xs ys) where
+module _ (n marks : ℕ) (xs ys : List ℕ) (h : Alike (has marks) xs ys) where
   entry : (i : ℕ) → Is (has marks i) → entryAt xs marks i ≡ entryAt ys marks i
   unfolding entryAt
-  entry i (on e) = rw (word n _ xs ys h i e)
+  entry i (on e) = rw (word _ xs ys h i e)
   entry i (off e) = choose-off _ _ _ e ∙ sym (choose-off _ _ _ e)
 
   -- what is worked from the length and the view is the same of both
   blind : {A : Type 0} (f : ℕ → (ℕ → Entry) → A) → f (length xs) (entryAt xs marks) ≡ f (length ys) (entryAt ys marks)
   blind f =
-      ap (λ (l : ℕ). f l (entryAt xs marks)) (h .long ∙ sym (h .long′))
+      ap (λ (l : ℕ). f l (entryAt xs marks)) (h .long)
       ∙ ap (f (length ys)) (fun-ext (λ i. entry i (is (has marks i))))
 
-  pub total-blind : (ss ts : List ℕ) → Alike n (λ i. not (has marks i)) ss ts
+  pub total-blind : (ss ts : List ℕ) → Alike (λ i. not (has marks i)) ss ts
       → totalOf n xs marks ss ≡ totalOf n ys marks ts
   unfolding totalOf
   total-blind ss ts k =

@@ -40,7 +40,7 @@ accepted n marks named entries e =
       long = same-on entries n (f .0);
     }
 
--- a call's two ends: the number of the check that failed, or what is worked of as many entries as there are
+-- a call's two ends: the number of the check that failed, or the answer, worked of as many entries as there are
 pub turned-away : {A : Type 0} (k number : ℕ) (a : Answer A) → number ≡ k → (number ≡ 0 → ⊥)
     → refused number ≡ unless k a
 unfolding unless
@@ -53,7 +53,5 @@ unless-none k a e = choose-on _ _ _ (same-mk k 0 e)
 pub answered : {A : Type 0} (n marks : ℕ) (named : Bool) (entries : ℕ) (f : ℕ → Answer A)
     → refusalOf n marks named entries ≡ 0
     → f entries ≡ unless (refusalOf n marks named entries) (f n)
-unfolding unless
 answered n marks named entries f e =
-    ap f (accepted n marks named entries e .long)
-    ∙ sym (choose-on _ _ _ (same-mk (refusalOf n marks named entries) 0 e))
+    ap f (accepted n marks named entries e .long) ∙ sym (unless-none (refusalOf n marks named entries) (f n) e)

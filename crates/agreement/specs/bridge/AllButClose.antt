@@ -11,7 +11,7 @@ use Rattle.sets.specs.Set.{has, insertOf, removeOf, emptySet, sizeOf}
 use Rattle.sets.specs.Laws.{has-empty, has-insert, has-remove, has-difference, has-all, size-count}
 use Rattle.sets.specs.Truth.{_&&_, _||_, same, below, choose}
 use Rattle.sets.specs.TruthLaws.{Is, on, off, is, choose-on, choose-off, and-l, and-r, and-mk}
-use Rattle.sets.specs.TruthLaws.{and-on-l, and-on-r, and-off-l, or-off-l, or-off-r, not-on, same-on}
+use Rattle.sets.specs.TruthLaws.{choose-by, and-on-l, and-on-r, and-off-l, or-off-l, or-off-r, not-on, same-on}
 use Rattle.sets.specs.TruthLaws.{same-refl, same-off, below-mk, below-off, below-on, both-ways}
 use Rattle.global_data.specs.GlobalData.{oneOf}
 use Rattle.process.specs.declared.Process.{Process}
@@ -31,7 +31,7 @@ use Rattle.bench.specs.Effect.{opensRound, sends, arrives, effect}
 use Rattle.agreement.specs.view.View.{slot, kept, taken, Calm, SameDecision, Start}
 use Rattle.agreement.specs.view.View.{Send, Arrive, Keep, Adopt, Ignore, Crash, Suspect}
 use Rattle.agreement.specs.view.Basic.{Basic}
-use Rattle.agreement.specs.bridge.Lengths.{Sized, choose-by}
+use Rattle.agreement.specs.bridge.Lengths.{Sized}
 use Rattle.agreement.specs.bridge.BenchView.{rowOf, heard, viewOf, Placed, placed-process, placed-transit}
 use Rattle.agreement.specs.bridge.BenchView.{placed-opens, opens-sent, row-open, others-of}
 use Rattle.agreement.specs.bridge.BenchView.{decision-of, calm-of, clip-on, transit-of, heard-more}
@@ -285,7 +285,7 @@ receive-hears : (y r : ℕ) (p : Process) → Hears p (receiveOf y r p)
 unfolding receiveOf hasDecided
 receive-hears y r p =
     choose-by (Hears p) (keeps p y r) _ p
-    (record {
+    (λ e. record {
       round = refl;
       decided = refl;
       previous = refl;
@@ -294,7 +294,7 @@ receive-hears y r p =
       outbox = refl;
       estimate = refl;
     })
-    (hears-same p)
+    (λ e. hears-same p)
 
 receive-on : (y r : ℕ) (p : Process) → keeps p y r ≡ true
     → receiveOf y r p .received ≡ set (p .received) (r - 1) (insertOf (getD (p .received) (r - 1) 0) y)

@@ -1,12 +1,10 @@
 -- Every array of the bench has its length, as opened and after any event: each part that is changed keeps the lengths.
 use mathlib.Core.Path.{_≡_, ap, _∙_}
 use mathlib.Core.Logic.{_≢_, _⊎_, inl, inr}
-use mathlib.Core.Bool.{Bool, true, false}
 use Prim.Native.Nat.{ℕ, _<_}
 use native.Mathlib.Omega.{arith}
 use lib.ListN.{length, length-set, length-replicate, getD-replicate}
-use Rattle.sets.specs.Truth.{choose}
-use Rattle.sets.specs.TruthLaws.{eq-or}
+use Rattle.sets.specs.TruthLaws.{choose-by, eq-or}
 use Rattle.global_data.specs.declared.GlobalData.{GlobalData}
 use Rattle.global_data.specs.GlobalData.{nothingOf}
 use Rattle.process.specs.declared.Process.{Process}
@@ -34,12 +32,6 @@ sized-opened n t = record {
   transit = length-replicate {A = ℕ} 272 0;
   received = λ x h. ap (λ (p : Process). length (p .received)) (getD-replicate 16 x idleOf noProcess h);
 }
-
--- what holds of both holds of the one chosen
-pub choose-by {ℓ} : {A : Type ℓ} (P : A → Type 0) (b : Bool) (x y : A) → P x → P y → P (choose b x y)
-unfolding choose
-choose-by P true x y h k = h
-choose-by P false x y h k = k
 
 -- ---- one part changed
 
@@ -102,6 +94,6 @@ sized-effect (Arrive a b Decision) s Z =
     sized-transit _ (sized-by s b _ Z (adopt-length (processAt s b) (s .n) b a _)) _ _ _
 sized-effect (Close a) s Z =
     let h = close-length (processAt s a) (s .n) (s .t) a _ in
-    choose-by Sized _ _ _ (sized-by s a _ Z h) (sized-opens s a _ Z h)
+    choose-by Sized _ _ _ (λ e. sized-by s a _ Z h) (λ e. sized-opens s a _ Z h)
 sized-effect (Crash a) s Z = sized-crashed s Z a
 sized-effect (Suspect a b) s Z = sized-by s a _ Z (suspect-length (processAt s a) b)

@@ -10,8 +10,9 @@ use lib.ListN.{length}
 use Rattle.sets.specs.Set.{has, sizeOf}
 use Rattle.sets.specs.Laws.{has-insert, size-insert}
 use Rattle.sets.specs.Truth.{_&&_, _||_, same, choose, bit}
-use Rattle.sets.specs.TruthLaws.{Is, on, off, is, choose-on, choose-off, and-l, and-r, and-on-l, and-off-l, not-on}
-use Rattle.sets.specs.TruthLaws.{off-by, or-off-r, same-on, same-mk, same-off, same-refl, below-on, both-ways, eq-or}
+use Rattle.sets.specs.TruthLaws.{Is, on, off, is, choose-on, choose-off, choose-by, and-l, and-r, and-on-l}
+use Rattle.sets.specs.TruthLaws.{and-off-l, not-on, off-by, or-off-r, same-on, same-mk, same-off, same-refl}
+use Rattle.sets.specs.TruthLaws.{below-on, both-ways, eq-or}
 use Rattle.global_data.specs.declared.GlobalData.{GlobalData}
 use Rattle.global_data.specs.declared.Entry.the-variants.{Absent, Value}
 use Rattle.process.specs.declared.Process.{Process}
@@ -31,7 +32,6 @@ use Rattle.agreement.specs.statement.History.{Outcome, undecided, decide
 use Rattle.agreement.specs.statement.History.{isDecided, startedWith, isCrashOf, roundsOpened}
 use Rattle.agreement.specs.histories.Append.{first-none}
 use Rattle.agreement.specs.bridge.Places.{process-here, process-there}
-use Rattle.agreement.specs.bridge.Lengths.{choose-by}
 
 -- the acting process after an event
 unfoldable pub turned : Event → Bench → Process
@@ -149,7 +149,8 @@ decision-turned (Send a b) s A started =
     decision-same (processAt s a) (sendOf b (processAt s a)) (send-decided (processAt s a) b) refl
 decision-turned (Arrive a b (Estimate r)) s A started =
     decision-same (processAt s b) _ (receive-decided (processAt s b) a r)
-    (choose-by (λ (q : Process). q .estimate ≡ processAt s b .estimate) (keeps (processAt s b) a r) _ _ refl refl)
+    (choose-by (λ (q : Process). q .estimate ≡ processAt s b .estimate) (keeps (processAt s b) a r) _ _
+    (λ e. refl) (λ e. refl))
 decision-turned (Arrive a b Decision) s A started =
     decision-choice (takesPart (processAt s b)) b (processAt s b) _ _ _ (takes-undecided (processAt s b))
     (decision-on _ (decide-decided (processAt s b) _ _)) refl
@@ -188,10 +189,10 @@ round-turned (Start a v) s A = rw (same-refl a) (omega (arith, same-on _ 0 (A .p
 round-turned (Send a b) s A = omega arith
 round-turned (Arrive a b (Estimate r)) s A =
     choose-by (λ (q : Process). q .round ≡ processAt s b .round + 0) (keeps (processAt s b) a r) _ _
-    (omega arith) (omega arith)
+    (λ e. omega arith) (λ e. omega arith)
 round-turned (Arrive a b Decision) s A =
     choose-by (λ (q : Process). q .round ≡ processAt s b .round + 0) (takesPart (processAt s b)) _ _
-    (omega arith) (omega arith)
+    (λ e. omega arith) (λ e. omega arith)
 round-turned (Close a) s A =
     close-round (decidesOf (s .n) (s .t) a (rowsAt s (processAt s a .round)) (processAt s a)) a _ _ _ _ refl refl
 round-turned (Crash a) s A = omega arith
@@ -232,7 +233,8 @@ crash-effect (Send a b) s f = no-crash s _ refl
 crash-effect (Arrive a b (Estimate r)) s f = no-crash s _ refl
 crash-effect (Arrive a b Decision) s f = no-crash s _ refl
 crash-effect (Close a) s f =
-    choose-by (λ (s′ : Bench). CrashesAdded s s′ (λ k. false) 0) _ _ _ (no-crash s _ refl) (no-crash s _ refl)
+    choose-by (λ (s′ : Bench). CrashesAdded s s′ (λ k. false) 0) _ _ _
+    (λ e. no-crash s _ refl) (λ e. no-crash s _ refl)
 crash-effect (Crash a) s f = new-crash s a f
 crash-effect (Suspect a b) s f = no-crash s _ refl
 

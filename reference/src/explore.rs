@@ -7,6 +7,7 @@
 use crate::check::{absent_only_if_crashed, check_closing, record_bound, valid, Broken};
 use crate::gen::well_formed;
 use crate::layout::{bit, members};
+use crate::listed::{check_list, held, Listed};
 use crate::{Bench, GlobalData, Process, Record};
 
 /// The most processes that a packed state holds.
@@ -29,6 +30,8 @@ pub struct Found {
     pub closings: [u64; 4],
     /// Those of them that decide on both grounds.
     pub both_grounds: u64,
+    /// Lists in transit of the states.
+    pub listed: Listed,
 }
 
 /// Walks every schedule of n and t.
@@ -124,6 +127,7 @@ impl Walk {
             }
             self.found.last_round = self.found.last_round.max(p.round);
         }
+        check_list(&self.bench, &held(&self.bench), &mut self.found.listed)?;
         self.check_decisions()
     }
 

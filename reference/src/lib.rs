@@ -10,7 +10,9 @@ pub mod compare;
 pub mod counters;
 pub mod explore;
 pub mod gen;
+pub mod kinds;
 pub mod layout;
+pub mod listed;
 #[cfg(feature = "proved")]
 pub mod met;
 #[cfg(feature = "proved")]

@@ -1,5 +1,6 @@
 //! What the differential test has met, so that it can tell what it has not.
 
+use crate::kinds::Kinds;
 use crate::layout::{all, members};
 use crate::{Closing, Event, Message};
 use std::cmp::Ordering::{self, Equal, Greater, Less};
@@ -35,7 +36,7 @@ pub const OF_BOTH_GROUNDS: usize = 4;
 
 /// How often each of `TOTALS` was met.
 #[derive(Clone, Default, Debug)]
-pub struct Totals([u64; TOTALS.len()]);
+pub struct Totals(Kinds<{ TOTALS.len() }>);
 
 /// What the aggregates are given; total alone takes the standing values.
 #[derive(Clone, Copy)]
@@ -193,22 +194,16 @@ impl Lists<'_> {
 
 impl Totals {
     pub fn count(&mut self, lists: &Lists, refused: u32, sum: u64) {
-        let counts = self.0.iter_mut().zip(TOTALS);
-        counts.for_each(|(count, (_, met))| *count += u64::from(met(lists, refused, sum)));
-    }
-
-    fn add(&mut self, other: &Totals) {
-        self.0.iter_mut().zip(other.0).for_each(|(sum, more)| *sum += more);
+        self.0.count(TOTALS.map(|(_, meets)| meets(lists, refused, sum)));
     }
 
     /// What could be met and was not.
     pub fn missing(&self) -> Vec<&'static str> {
-        TOTALS.iter().zip(self.0).filter(|(_, count)| *count == 0).map(|((name, _), _)| *name).collect()
+        self.0.missing().map(|i| TOTALS[i].0).collect()
     }
 
     fn report(&self) -> String {
-        let line = |((name, _), count): (&(&str, _), u64)| format!("{name} {count}");
-        TOTALS.iter().zip(self.0).map(line).collect::<Vec<String>>().join(", ")
+        self.0.report(TOTALS.map(|(name, _)| name))
     }
 }
 
@@ -222,7 +217,7 @@ impl Met {
         self.accepted += other.accepted;
         self.closings.add(&other.closings);
         self.bytes.add(&other.bytes);
-        self.totals.add(&other.totals);
+        self.totals.0.add(&other.totals.0);
         for (sum, more) in self.answers.iter_mut().zip(other.answers) {
             *sum += more;
         }

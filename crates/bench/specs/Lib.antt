@@ -14,5 +14,8 @@ pub mod RunLaws
 pub mod Sound
 pub mod SoundLaws
 pub mod State
+pub mod TransitCases
 pub mod TransitLaws
 pub mod TransitList
+pub mod TransitOrder
+pub mod TransitOrderLaws

@@ -20,25 +20,22 @@ use Rattle.bench.specs.State.{transitAt}
 use Rattle.bench.specs.TransitList.{messageBytes, transitBytes}
 
 -- ---- the list by its parts: m is a set in transit, `words` all of them
-unfoldable pub setBytes : ℕ → ℕ → ℕ → ℕ → List ℕ
-setBytes m r a b = choose (has m b) ((a + 1) ∷ (b + 1) ∷ r ∷ []) []
-
-pub message-in : (m r a b : ℕ) → has m b ≡ true → setBytes m r a b ≡ (a + 1) ∷ (b + 1) ∷ r ∷ []
-unfolding setBytes
+pub message-in : (m r a b : ℕ) → has m b ≡ true → messageBytes m r a b ≡ (a + 1) ∷ (b + 1) ∷ r ∷ []
+unfolding messageBytes
 message-in m r a b e = choose-on (has m b) ((a + 1) ∷ (b + 1) ∷ r ∷ []) [] e
 
-pub message-none : (m r a b : ℕ) → has m b ≡ false → setBytes m r a b ≡ []
-unfolding setBytes
+pub message-none : (m r a b : ℕ) → has m b ≡ false → messageBytes m r a b ≡ []
+unfolding messageBytes
 message-none m r a b e = choose-off (has m b) ((a + 1) ∷ (b + 1) ∷ r ∷ []) [] e
 
 unfoldable pub senderBytes : List ℕ → ℕ → ℕ → ℕ → List ℕ
-senderBytes words n r a = joined n (setBytes (getD words (a * 17 + r) 0) r a)
+senderBytes words n r a = joined n (messageBytes (getD words (a * 17 + r) 0) r a)
 
 unfoldable pub roundBytes : List ℕ → ℕ → ℕ → List ℕ
 roundBytes words n r = joined n (senderBytes words n r)
 
 pub transit-by : (s : Bench) → transitBytes s ≡ joined (s .t + 2) (roundBytes (s .in_transit) (s .n))
-unfolding transitBytes messageBytes transitAt setBytes senderBytes roundBytes
+unfolding transitBytes transitAt senderBytes roundBytes
 transit-by s = refl
 
 -- ---- what is stored from a place on, and the place after it
@@ -115,11 +112,11 @@ unfolding choose bit
 bit-length true x y z = refl
 bit-length false x y z = refl
 
-members-length : (m r a n : ℕ) → length (joined n (setBytes m r a)) ≡ count n (has m) * 3
-unfolding setBytes joined count
+members-length : (m r a n : ℕ) → length (joined n (messageBytes m r a)) ≡ count n (has m) * 3
+unfolding messageBytes joined count
 members-length m r a zero = refl
 members-length m r a (suc n) =
-    omega (arith, joined-length (setBytes m r a) n, bit-length (has m n) (a + 1) (n + 1) r, members-length m r a n)
+    omega (arith, joined-length (messageBytes m r a) n, bit-length (has m n) (a + 1) (n + 1) r, members-length m r a n)
 
-pub size-length : (m r a n : ℕ) → m < 2 ^ n → sizeOf m * 3 ≡ length (joined n (setBytes m r a))
+pub size-length : (m r a n : ℕ) → m < 2 ^ n → sizeOf m * 3 ≡ length (joined n (messageBytes m r a))
 size-length m r a n h = ap (λ (x : ℕ). x * 3) (size-count n m h) ∙ sym (members-length m r a n)

@@ -14,11 +14,12 @@ use Rattle.bench.specs.State.{transitAt}
 use Rattle.bench.specs.Sound.{soundOf}
 use Rattle.bench.specs.Calls.{refused}
 
-unfoldable pub messageBytes : Bench → ℕ → ℕ → ℕ → List ℕ
-messageBytes s r a b = choose (has (transitAt s a r) b) ((a + 1) ∷ (b + 1) ∷ r ∷ []) []
+-- message r of a to b, where b is in the set m of those to whom it is on its way
+unfoldable pub messageBytes : ℕ → ℕ → ℕ → ℕ → List ℕ
+messageBytes m r a b = choose (has m b) ((a + 1) ∷ (b + 1) ∷ r ∷ []) []
 
 unfoldable pub transitBytes : Bench → List ℕ
-transitBytes s = joined (s .t + 2) (λ r. joined (s .n) (λ a. joined (s .n) (messageBytes s r a)))
+transitBytes s = joined (s .t + 2) (λ r. joined (s .n) (λ a. joined (s .n) (messageBytes (transitAt s a r) r a)))
 
 -- 2, 10, or 0
 unfoldable pub listRefusal : Bench → List ℕ → ℕ

@@ -8,13 +8,13 @@ ghost use mathlib.Core.Path.{_≡_};
 ghost use Prim.Native.Nat.{ℕ, _+_, _*_, _^_, _≤_, _<_};
 ghost use lib.ListN.{length, getD};
 ghost use Rattle.sets.specs.Lists.{joined};
-ghost use Rattle.bench.specs.TransitList.{listOf, listedIn};
-ghost use Rattle.bench.specs.TransitLaws.{setBytes, roundBytes, Stores};
+ghost use Rattle.bench.specs.TransitList.{messageBytes, listOf, listedIn};
+ghost use Rattle.bench.specs.TransitLaws.{roundBytes, Stores};
 
 // Message r of a to b, where b is in the set m of its receivers. Gives the place after it.
 fn put_message(out: &mut [u8], at: usize, m: u16, r: u8, a: u8, b: u8) -> usize
-    requires { ⌜ (a < 16) × (b < 16) × (at + length (setBytes m r a b) ≤ length (now out)) ⌝ }
-    ensures { λ res. ⌜ Stores (now (out .entry)) at (setBytes m r a b) (now (out .exit)) res ⌝ }
+    requires { ⌜ (a < 16) × (b < 16) × (at + length (messageBytes m r a b) ≤ length (now out)) ⌝ }
+    ensures { λ res. ⌜ Stores (now (out .entry)) at (messageBytes m r a b) (now (out .exit)) res ⌝ }
 {
     if sets::member(m, b as usize) {
         out[at] = a + 1;
@@ -28,8 +28,8 @@ fn put_message(out: &mut [u8], at: usize, m: u16, r: u8, a: u8, b: u8) -> usize
 
 // Message r of a, to each receiver in m.
 fn put_set(out: &mut [u8], at: usize, n: u8, m: u16, r: u8, a: u8) -> usize
-    requires { ⌜ (n ≤ 16) × (a < 16) × (at + length (joined n (setBytes m r a)) ≤ length (now out)) ⌝ }
-    ensures { λ res. ⌜ Stores (now (out .entry)) at (joined n (setBytes m r a)) (now (out .exit)) res ⌝ }
+    requires { ⌜ (n ≤ 16) × (a < 16) × (at + length (joined n (messageBytes m r a)) ≤ length (now out)) ⌝ }
+    ensures { λ res. ⌜ Stores (now (out .entry)) at (joined n (messageBytes m r a)) (now (out .exit)) res ⌝ }
 {
     let mut place = at;
     let mut b = 0u8;

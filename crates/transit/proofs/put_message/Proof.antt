@@ -4,12 +4,13 @@ use Prim.Native.Nat.{_+_}
 use native.Mathlib.Omega.{arith}
 use lib.ListN.{length, length-set}
 use borrow.Author.Needs.{needs}
-use Rattle.bench.specs.TransitLaws.{setBytes, message-in, message-none, stores-none, stores-three}
+use Rattle.bench.specs.TransitList.{messageBytes}
+use Rattle.bench.specs.TransitLaws.{message-in, message-none, stores-none, stores-three}
 use Rattle.transit.proofs.put_message.Statement.{statement}
 use Rattle.transit.proofs.put_message.Tie as tie
 
 -- b is in: three bytes, which have room
-there : (c : tie.Then1) → let a = c .before .before .before .args in length (setBytes (a .m) (a .r) (a .a) (a .b)) ≡ 3
+there : (c : tie.Then1) → let a = c .before .before .before .args in length (messageBytes (a .m) (a .r) (a .a) (a .b)) ≡ 3
 there c =
     let a = c .before .before .before .args in
     ap length (message-in (a .m) (a .r) (a .a) (a .b) (sym (c .before .member .ensures) ∙ c .if1 .taken))

@@ -5,12 +5,13 @@ use native.Mathlib.Nat.{le-antisymm}
 use native.Mathlib.Omega.{arith}
 use borrow.Author.Needs.{needs}
 use Rattle.sets.specs.Lists.{joined}
-use Rattle.bench.specs.TransitLaws.{setBytes, Stores, stores-none, stores-length, stores-more, stores-room}
+use Rattle.bench.specs.TransitList.{messageBytes}
+use Rattle.bench.specs.TransitLaws.{Stores, stores-none, stores-length, stores-more, stores-room}
 use Rattle.transit.proofs.put_set.Statement.{statement}
 use Rattle.transit.proofs.put_set.Tie as tie
 
 abbrev Inv-loop : tie.InvT-loop
-Inv-loop out₀ at n m r a place₀ b₀ out place b = (b ≤ n) × Stores out₀ at (joined b (setBytes m r a)) out place
+Inv-loop out₀ at n m r a place₀ b₀ out place b = (b ≤ n) × Stores out₀ at (joined b (messageBytes m r a)) out place
 
 abbrev μ-loop : tie.MeasureT-loop
 μ-loop out₀ at n m r a place₀ b₀ out place b = n - b
@@ -21,7 +22,7 @@ put-message-requires c κs =
     let l = c .before .before .loop in (
       search needs,
       omega arith,
-      stores-room (setBytes (a .m) (a .r) (a .a)) (a .out .now) (a .at) (a .n) (l .b) (l .out) (l .place)
+      stores-room (messageBytes (a .m) (a .r) (a .a)) (a .out .now) (a .at) (a .n) (l .b) (l .out) (l .place)
           (c .before .loop-test .taken)
           (c .before .before .before .before .pre .2) (l .inv .1),
     )
@@ -32,7 +33,7 @@ loop-again c =
     let l = c .before .before .before .before .before .loop in
     let p = c .before .before .put-message in (
       search needs,
-      stores-more (setBytes (a .m) (a .r) (a .a)) (a .out .now) (a .at) (l .b) (l .out) (l .place) (p .last .0)
+      stores-more (messageBytes (a .m) (a .r) (a .a)) (a .out .now) (a .at) (l .b) (l .out) (l .place) (p .last .0)
           (p .result) (l .inv .1) (p .ensures),
     )
 
@@ -40,7 +41,7 @@ same-length : tie.Need-same-length Inv-loop μ-loop
 same-length c =
     let a = c .before .before .before .args in
     let l = c .before .loop in
-    stores-length (a .out .now) (a .at) (joined (l .b) (setBytes (a .m) (a .r) (a .a))) (l .out) (l .place) (l .inv .1)
+    stores-length (a .out .now) (a .at) (joined (l .b) (messageBytes (a .m) (a .r) (a .a))) (l .out) (l .place) (l .inv .1)
 
 pub put-set-spec : {M : Type 1} → statement M
 unfolding joined

@@ -9,13 +9,16 @@ ghost use Prim.Native.Nat.{ℕ, _+_, _*_, _^_, _≤_, _<_};
 ghost use lib.ListN.{length, getD};
 ghost use Rattle.sets.specs.Lists.{joined};
 ghost use Rattle.bench.specs.TransitList.{messageBytes, listOf, listedIn};
-ghost use Rattle.bench.specs.TransitLaws.{roundBytes, Stores};
+ghost use Rattle.bench.specs.TransitLaws.{senderBytes, roundBytes, Stores};
 
-// Message r of a to b, where b is in the set m of its receivers. Gives the place after it.
-fn put_message(out: &mut [u8], at: usize, m: u16, r: u8, a: u8, b: u8) -> usize
-    requires { ⌜ (a < 16) × (b < 16) × (at + length (messageBytes m r a b) ≤ length (now out)) ⌝ }
-    ensures { λ res. ⌜ Stores (now (out .entry)) at (messageBytes m r a b) (now (out .exit)) res ⌝ }
+// Message r of a to b, where it is in transit. Gives the place after it.
+fn put_message(out: &mut [u8], at: usize, words: &[u16], r: u8, a: u8, b: u8) -> usize
+    requires { ⌜ (r ≤ 16) × (a < 16) × (b < 16) × (length (now words) ≡ 272)
+        × (at + length (messageBytes (getD (now words) (a * 17 + r) 0) r a b) ≤ length (now out)) ⌝ }
+    ensures { λ res. ⌜ Stores (now (out .entry)) at (messageBytes (getD (now (words .entry)) (a * 17 + r) 0) r a b)
+        (now (out .exit)) res ⌝ }
 {
+    let m = words[(a as usize) * 17 + (r as usize)];
     if sets::member(m, b as usize) {
         out[at] = a + 1;
         out[at + 1] = b + 1;
@@ -26,15 +29,16 @@ fn put_message(out: &mut [u8], at: usize, m: u16, r: u8, a: u8, b: u8) -> usize
     }
 }
 
-// Message r of a, to each receiver in m.
-fn put_set(out: &mut [u8], at: usize, n: u8, m: u16, r: u8, a: u8) -> usize
-    requires { ⌜ (n ≤ 16) × (a < 16) × (at + length (joined n (messageBytes m r a)) ≤ length (now out)) ⌝ }
-    ensures { λ res. ⌜ Stores (now (out .entry)) at (joined n (messageBytes m r a)) (now (out .exit)) res ⌝ }
+// Message r of a, to each receiver.
+fn put_set(out: &mut [u8], at: usize, n: u8, words: &[u16], r: u8, a: u8) -> usize
+    requires { ⌜ (n ≤ 16) × (r ≤ 16) × (a < 16) × (length (now words) ≡ 272)
+        × (at + length (senderBytes (now words) n r a) ≤ length (now out)) ⌝ }
+    ensures { λ res. ⌜ Stores (now (out .entry)) at (senderBytes (now (words .entry)) n r a) (now (out .exit)) res ⌝ }
 {
     let mut place = at;
     let mut b = 0u8;
     while b < n {
-        place = put_message(out, place, m, r, a, b);
+        place = put_message(out, place, words, r, a, b);
         b += 1;
     }
     place
@@ -49,8 +53,7 @@ fn put_round(out: &mut [u8], at: usize, n: u8, words: &[u16], r: u8) -> usize
     let mut place = at;
     let mut a = 0u8;
     while a < n {
-        let m = words[(a as usize) * 17 + (r as usize)];
-        place = put_set(out, place, n, m, r, a);
+        place = put_set(out, place, n, words, r, a);
         a += 1;
     }
     place

@@ -1,51 +1,56 @@
 -- `put_set` stores the message for each receiver. The loop's invariant: what is stored is the
 -- bytes for the receivers below b.
-use Prim.Native.Nat.{_≤_, _-_}
+use Prim.Native.Nat.{ℕ, _+_, _*_, _≤_, _-_}
 use native.Mathlib.Nat.{le-antisymm}
 use native.Mathlib.Omega.{arith}
+use lib.ListN.{getD}
 use borrow.Author.Needs.{needs}
 use Rattle.sets.specs.Lists.{joined}
 use Rattle.bench.specs.TransitList.{messageBytes}
-use Rattle.bench.specs.TransitLaws.{Stores, stores-none, stores-length, stores-more, stores-room}
+use Rattle.bench.specs.TransitLaws.{senderBytes, Stores, stores-none, stores-length, stores-more, stores-room}
 use Rattle.transit.proofs.put_set.Statement.{statement}
 use Rattle.transit.proofs.put_set.Tie as tie
 
 abbrev Inv-loop : tie.InvT-loop
-Inv-loop out₀ at n m r a place₀ b₀ out place b = (b ≤ n) × Stores out₀ at (joined b (messageBytes m r a)) out place
+Inv-loop out₀ at n words r a place₀ b₀ out place b =
+    (b ≤ n) × Stores out₀ at (joined b (messageBytes (getD words (a * 17 + r) 0) r a)) out place
 
 abbrev μ-loop : tie.MeasureT-loop
-μ-loop out₀ at n m r a place₀ b₀ out place b = n - b
+μ-loop out₀ at n words r a place₀ b₀ out place b = n - b
 
 put-message-requires : tie.Need-put-message-requires Inv-loop μ-loop
+unfolding senderBytes
 put-message-requires c κs =
-    let a = c .before .before .before .before .args in
+    let s = c .before .before .before .before .before in
+    let a = s .args in
     let l = c .before .before .loop in (
       search needs,
+      search needs,
       omega arith,
-      stores-room (messageBytes (a .m) (a .r) (a .a)) (a .out .now) (a .at) (a .n) (l .b) (l .out) (l .place)
-          (c .before .loop-test .taken)
-          (c .before .before .before .before .pre .2) (l .inv .1),
+      search needs,
+      stores-room (messageBytes (getD (a .words .now) (a .a * 17 + a .r) 0) (a .r) (a .a)) (a .out .now) (a .at) (a .n)
+          (l .b) (l .out) (l .place) (c .before .loop-test .taken) (s .pre .4) (l .inv .1),
     )
 
 loop-again : tie.Need-loop-again Inv-loop μ-loop
 loop-again c =
-    let a = c .before .before .before .before .before .before .before .args in
+    let a = c .before .before .before .before .before .before .before .before .args in
     let l = c .before .before .before .before .before .loop in
     let p = c .before .before .put-message in (
       search needs,
-      stores-more (messageBytes (a .m) (a .r) (a .a)) (a .out .now) (a .at) (l .b) (l .out) (l .place) (p .last .0)
-          (p .result) (l .inv .1) (p .ensures),
+      stores-more (messageBytes (getD (a .words .now) (a .a * 17 + a .r) 0) (a .r) (a .a)) (a .out .now) (a .at) (l .b)
+          (l .out) (l .place) (p .last .0) (p .result) (l .inv .1) (p .ensures),
     )
 
 same-length : tie.Need-same-length Inv-loop μ-loop
 same-length c =
-    let a = c .before .before .before .args in
+    let a = c .before .before .before .before .args in
     let l = c .before .loop in
-    stores-length (a .out .now) (a .at) (joined (l .b) (messageBytes (a .m) (a .r) (a .a))) (l .out) (l .place) (l .inv .1)
+    stores-length (a .out .now) (a .at) _ (l .out) (l .place) (l .inv .1)
 
 pub put-set-spec : {M : Type 1} → statement M
-unfolding joined
+unfolding joined senderBytes
 put-set-spec = tie.close (tie.spec Inv-loop μ-loop
-    (λ c. (search needs, stores-none (c .before .args .out .now) (c .before .args .at))) put-message-requires
-    (λ c. search needs) (λ c. search needs) loop-again same-length
+    (λ c. (search needs, stores-none (c .before .before .args .out .now) (c .before .before .args .at)))
+    put-message-requires (λ c. search needs) (λ c. search needs) loop-again same-length
     (λ c. rw (le-antisymm (c .before .loop .inv .0) (c .loop-test .left)) at (c .before .loop .inv .1)))

@@ -5,6 +5,7 @@ pub mod ClosingLaws
 pub mod Closings
 pub mod Effect
 pub mod EveryInLaws
+pub mod ListedLaws
 pub mod OneByOne
 pub mod Record
 pub mod RecordLaws

@@ -8,7 +8,7 @@ use Rattle.sets.specs.Truth.{same, choose}
 use Rattle.bench.specs.declared.Bench.{Bench}
 use Rattle.bench.specs.State.{transitAt, withTransit, openedOf}
 use Rattle.bench.specs.TransitList.{messageBytes, transitBytes}
-use Rattle.bench.specs.TransitOrder.{message, bytesOf}
+use Rattle.bench.specs.TransitOrder.{listed, bytesOf}
 
 -- three processes, of which two may crash: a decision of 3, and estimates of the rounds 1 to 3. The last two sets are
 -- of a round past t + 1 and of a sender past n: no schedule reaches them, and what is in them is not listed
@@ -22,6 +22,6 @@ several =
 
 pub several-listed : transitBytes several
     ≡ bytesOf
-    (message 3 2 0 ∷ message 1 3 1 ∷ message 2 1 1 ∷ message 2 3 1 ∷ message 1 2 2 ∷ message 2 1 3 ∷ [])
-unfolding several message openedOf withTransit transitAt has same choose joined messageBytes transitBytes bytesOf
+    (listed 3 2 0 ∷ listed 1 3 1 ∷ listed 2 1 1 ∷ listed 2 3 1 ∷ listed 1 2 2 ∷ listed 2 1 3 ∷ [])
+unfolding several listed openedOf withTransit transitAt has same choose joined messageBytes transitBytes bytesOf
 several-listed = refl

@@ -1,5 +1,5 @@
--- The list in transit (document 01: in flight): by round, decisions first as 0, then sender,
--- then receiver; a, b and r in three bytes.
+-- The list in transit (document 01: in flight): by round, decisions first as round 0, then by sender, then by receiver
+-- (request C-13); a, b and r in three bytes.
 use mathlib.Core.List.{List, [], _∷_, _++_}
 use mathlib.Core.Bool.{not}
 use Prim.Native.Nat.{ℕ, _+_, _/_}

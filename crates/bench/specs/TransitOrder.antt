@@ -18,8 +18,8 @@ pub record ListedMessage : Type 0 where
   pub round : ℕ
 
 -- (a, b, r) of the papers
-unfoldable pub message : ℕ → ℕ → ℕ → ListedMessage
-message a b r = record { sender = a; receiver = b; round = r }
+unfoldable pub listed : ℕ → ℕ → ℕ → ListedMessage
+listed a b r = record { sender = a; receiver = b; round = r }
 
 -- three bytes each
 unfoldable pub bytesOf : List ListedMessage → List ℕ

@@ -1,288 +1,36 @@
 -- The list in transit is what request C-13 says: strictly rising by round, sender and receiver, and naming just the
--- messages in transit. By one law over `joined`, used for the receivers, the senders and the rounds: lists one after
--- another are a list where every message of an earlier one comes before every message of a later one. What follows: there is
--- but one such list, so the same messages are shown as the same bytes, and where two lists differ a message does.
-use mathlib.Core.Path.{_≡_, refl, sym, ap, ap₂, subst, _∙_}
-use mathlib.Core.Logic.{_↔_, _⊎_, inl, inr, ⊎-elim, ∥∥₁-elim}
-use mathlib.Core.List.{List, [], _∷_, _++_, append-nil, append-assoc}
-use mathlib.Core.List.{Pairwise, Pairwise·nil, pairwise-singleton, pairwise-cons, pairwise-append, rel-of-pairwise-cons}
-use mathlib.Core.List.{List·Nodup, List·Mem, List·Memᴰ as In, List·Memᴰ·head as here, List·Memᴰ·tail as later}
-use mathlib.Core.List.{List·Memᴰ·not-nil as not-in, List·Memᴰ·cases-cons as in-cases}
-use mathlib.Core.List.{List·Memᴰ·eq-of-singleton as in-one}
-use mathlib.Core.List.{cons≢nil, nil≢cons, head-eq-of-cons-eq, tail-eq-of-cons-eq}
-use mathlib.Core.List.{Memᴰ·append-left as in-left, Memᴰ·append-right as in-right, List·Memᴰ·append-cases as in-either}
-use mathlib.Core.Bool.{Bool, true, false}
-use mathlib.Mathlib.Order.Defs.Unbundled.{Std·Irrefl}
+-- messages in transit. By `lists-joined`, for the receivers, the senders and the rounds. What follows: there is one
+-- such list alone, so the same messages are shown as the same bytes, and where two lists differ, a message does.
+use mathlib.Core.Path.{_≡_, refl, sym, ap, subst, _∙_}
+use mathlib.Core.Logic.{_↔_, _⊎_}
+use mathlib.Core.List.{List, List·Nodup, List·Memᴰ as In}
+use mathlib.Core.Bool.{true}
 use mathlib.Mathlib.Data.List.Nodup.{Pairwise·nodup}
-use Prim.Native.Nat.{ℕ, zero, suc, _+_, _-_, _*_, _/_, _≤_, _<_}
-use native.Mathlib.Nat.{ℕ-set}
-use native.Mathlib.Bridge.{le-prop}
+use Prim.Native.Nat.{ℕ, _+_, _-_, _/_, _≤_, _<_}
 use native.Mathlib.Omega.{arith}
 use lib.ListN.{length}
 use Rattle.sets.specs.Lists.{joined}
 use Rattle.sets.specs.Set.{has}
-use Rattle.sets.specs.Truth.{choose}
-use Rattle.sets.specs.TruthLaws.{Is, on, off, is, clash, choose-on, choose-off, eq-or, le-or, one-low, one-high, one-mk}
+use Rattle.sets.specs.TruthLaws.{one-low, one-high, one-mk}
 use Rattle.bench.specs.declared.Bench.{Bench}
-use Rattle.bench.specs.State.{transitAt}
 use Rattle.bench.specs.declared.Message.{Message}
 use Rattle.bench.specs.declared.Event.the-variants.{Arrive}
+use Rattle.bench.specs.declared.Listed.the-variants.{Count}
+use Rattle.bench.specs.State.{transitAt}
 use Rattle.bench.specs.Sound.{soundOf}
 use Rattle.bench.specs.Refuse.{numberOf, passes7}
 use Rattle.bench.specs.TransitList.{messageBytes, transitBytes, listRefusal, listOf, listedIn}
-use Rattle.bench.specs.TransitOrder.{ListedMessage, message, bytesOf, Before, by-round, by-sender, by-receiver}
+use Rattle.bench.specs.CallLaws.{list-listed}
+use Rattle.bench.specs.TransitOrder.{ListedMessage, listed, by-round, by-sender, by-receiver}
 use Rattle.bench.specs.TransitOrder.{InTransit, Lists, Extra}
-
--- ---- the order
--- of two messages at most one comes before the other
-pub before-not : (x y : ListedMessage) → Before x y → Before y x → ⊥
-before-not x y (by-round h) (by-round k) = omega arith
-before-not x y (by-round h) (by-sender d k) = omega arith
-before-not x y (by-round h) (by-receiver d e k) = omega arith
-before-not x y (by-sender d h) (by-round k) = omega arith
-before-not x y (by-sender d h) (by-sender e k) = omega arith
-before-not x y (by-sender d h) (by-receiver e f k) = omega arith
-before-not x y (by-receiver d e h) (by-round k) = omega arith
-before-not x y (by-receiver d e h) (by-sender f k) = omega arith
-before-not x y (by-receiver d e h) (by-receiver f g k) = omega arith
-
--- and none before itself
-pub before-never : Std·Irrefl Before
-before-never = record { irrefl = λ x h. before-not x x h h }
-
--- of two that differ, one does
-pub before-or : (x y : ListedMessage) → (x ≡ y) ⊎ (Before x y ⊎ Before y x)
-before-or x y = go (eq-or (x .round) (y .round)) (eq-or (x .sender) (y .sender)) (eq-or (x .receiver) (y .receiver))
-  where
-    less : (i j : ℕ) → (i ≡ j → ⊥) → (i < j) ⊎ (j < i)
-    less i j h = ⊎-elim (λ l. inl (omega arith)) (λ l. inr l) (le-or i j)
-
-    go : (x .round ≡ y .round) ⊎ (x .round ≡ y .round → ⊥) → (x .sender ≡ y .sender) ⊎ (x .sender ≡ y .sender → ⊥)
-        → (x .receiver ≡ y .receiver) ⊎ (x .receiver ≡ y .receiver → ⊥) → (x ≡ y) ⊎ (Before x y ⊎ Before y x)
-    go (inl d) (inl e) (inl f) = inl (λ i. record { sender = e i; receiver = f i; round = d i })
-    go (inl d) (inl e) (inr h) =
-        inr (⊎-elim (λ l. inl (by-receiver d e l)) (λ l. inr (by-receiver (sym d) (sym e) l)) (less _ _ h))
-    go (inl d) (inr h) f = inr (⊎-elim (λ l. inl (by-sender d l)) (λ l. inr (by-sender (sym d) l)) (less _ _ h))
-    go (inr h) e f = inr (⊎-elim (λ l. inl (by-round l)) (λ l. inr (by-round l)) (less _ _ h))
-
-before-prop : (x y : ListedMessage) → IsProp (Before x y)
-before-prop x y (by-round h) (by-round k) = ap by-round (le-prop h k)
-before-prop x y (by-sender d h) (by-sender e k) = ap₂ by-sender (ℕ-set _ _ d e) (le-prop h k)
-before-prop x y (by-receiver d e h) (by-receiver f g k) =
-    λ i. by-receiver (ℕ-set _ _ d f i) (ℕ-set _ _ e g i) (le-prop h k i)
-before-prop x y (by-round h) (by-sender d k) = absurd (omega arith)
-before-prop x y (by-round h) (by-receiver d e k) = absurd (omega arith)
-before-prop x y (by-sender d h) (by-round k) = absurd (omega arith)
-before-prop x y (by-sender d h) (by-receiver e f k) = absurd (omega arith)
-before-prop x y (by-receiver d e h) (by-round k) = absurd (omega arith)
-before-prop x y (by-receiver d e h) (by-sender f k) = absurd (omega arith)
-
--- ---- two rising lists, read from the top
-Told : List ListedMessage → List ListedMessage → Type 0
-Told l k =
-    (bytesOf l ≡ bytesOf k)
-    ⊎ (Extra (λ m. In m l) (λ m. In m k) (bytesOf l) (bytesOf k)
-    ⊎ Extra (λ m. In m k) (λ m. In m l) (bytesOf k) (bytesOf l))
-
-extra-here : (x : ListedMessage) (l k : List ListedMessage) → (In x k → ⊥)
-    → Extra (λ m. In m (x ∷ l)) (λ m. In m k) (bytesOf (x ∷ l)) (bytesOf k)
-extra-here x l k h =
-    record {
-      above = [];
-      message = x;
-      rest = l;
-      other = k;
-      first-is = refl;
-      second-is = refl;
-      in-first = here refl;
-      not-in-second = h;
-    }
-
-extra-later : (x y : ListedMessage) (l k : List ListedMessage) → x ≡ y → Pairwise Before (x ∷ l)
-    → Extra (λ m. In m l) (λ m. In m k) (bytesOf l) (bytesOf k)
-    → Extra (λ m. In m (x ∷ l)) (λ m. In m (y ∷ k)) (bytesOf (x ∷ l)) (bytesOf (y ∷ k))
-unfolding bytesOf
-extra-later x y l k e p w =
-    record {
-      above = x ∷ w .above;
-      message = w .message;
-      rest = w .rest;
-      other = w .other;
-      first-is = ap (λ (b : List ℕ). x .sender ∷ x .receiver ∷ x .round ∷ b) (w .first-is);
-      second-is = rw (sym e, w .second-is);
-      in-first = later (w .in-first);
-      not-in-second = λ h.
-          ⊎-elim
-          (λ u. before-never .irrefl x (subst (Before x) (u ∙ sym e) (rel-of-pairwise-cons p ∣ w .in-first ∣₁)))
-          (w .not-in-second) (in-cases h);
-    }
-
--- who comes before the head of a rising list is not in it
-not-there : (x y : ListedMessage) (k : List ListedMessage) → Before x y → Pairwise Before (y ∷ k) → In x (y ∷ k) → ⊥
-not-there x y k b q h =
-    ⊎-elim (λ u. before-never .irrefl x (subst (Before x) (sym u) b))
-    (λ u. before-not x y b (rel-of-pairwise-cons q ∣ u ∣₁)) (in-cases h)
-
-told : (l k : List ListedMessage) → Pairwise Before l → Pairwise Before k → Told l k
-unfolding Told bytesOf
-told [] [] p q = inl refl
-told (x ∷ l) [] p q = inr (inl (extra-here x l [] not-in))
-told [] (y ∷ k) p q = inr (inr (extra-here y k [] not-in))
-told (x ∷ l) (y ∷ k) p q = go (told l k (pairwise-cons .0 p .1) (pairwise-cons .0 q .1)) (before-or x y)
-  where
-    go : Told l k → (x ≡ y) ⊎ (Before x y ⊎ Before y x) → Told (x ∷ l) (y ∷ k)
-    go w (inr (inl b)) = inr (inl (extra-here x l (y ∷ k) (not-there x y k b q)))
-    go w (inr (inr b)) = inr (inr (extra-here y k (x ∷ l) (not-there y x l b p)))
-    go (inl d) (inl e) = inl (rw (e, d))
-    go (inr (inl w)) (inl e) = inr (inl (extra-later x y l k e p w))
-    go (inr (inr w)) (inl e) = inr (inr (extra-later y x k l (sym e) q w))
-
--- ---- lists of messages
--- what a list names, said otherwise
-module _ (P Q : ListedMessage → Type 0) where
-  lists-as : (bytes : List ℕ) → ((m : ListedMessage) → P m ↔ Q m) → Lists P bytes → Lists Q bytes
-  lists-as bytes h w =
-      record {
-        messages = w .messages;
-        spelt = w .spelt;
-        rising = w .rising;
-        exact = λ m. (λ u. h m .0 (w .exact m .0 u), λ u. w .exact m .1 (h m .1 u));
-      }
-
--- two lists are the same, or one has a message that the other lacks
-extra-as : (P Q : ListedMessage → Type 0) (first second : List ℕ) (v : Lists P first) (w : Lists Q second)
-    → Extra (λ m. In m (v .messages)) (λ m. In m (w .messages)) (bytesOf (v .messages)) (bytesOf (w .messages))
-    → Extra P Q first second
-extra-as P Q first second v w x =
-    record {
-      above = x .above;
-      message = x .message;
-      rest = x .rest;
-      other = x .other;
-      first-is = v .spelt ∙ x .first-is;
-      second-is = w .spelt ∙ x .second-is;
-      in-first = v .exact (x .message) .0 (x .in-first);
-      not-in-second = λ q. x .not-in-second (w .exact (x .message) .1 q);
-    }
-
-pub lists-differ : (P Q : ListedMessage → Type 0) (first second : List ℕ) → Lists P first → Lists Q second
-    → (first ≡ second) ⊎ (Extra P Q first second ⊎ Extra Q P second first)
-unfolding Told
-lists-differ P Q first second v w = go (told (v .messages) (w .messages) (v .rising) (w .rising))
-  where
-    go : Told (v .messages) (w .messages) → (first ≡ second) ⊎ (Extra P Q first second ⊎ Extra Q P second first)
-    go (inl e) = inl (v .spelt ∙ e ∙ sym (w .spelt))
-    go (inr (inl x)) = inr (inl (extra-as P Q first second v w x))
-    go (inr (inr x)) = inr (inr (extra-as Q P second first w v x))
-
--- there is but one list of the same messages
-pub lists-same : (P Q : ListedMessage → Type 0) (first second : List ℕ) → ((m : ListedMessage) → P m ↔ Q m)
-    → Lists P first → Lists Q second → first ≡ second
-lists-same P Q first second h v w = go (lists-differ P Q first second v w)
-  where
-    go : (first ≡ second) ⊎ (Extra P Q first second ⊎ Extra Q P second first) → first ≡ second
-    go (inl e) = e
-    go (inr (inl x)) = absurd (x .not-in-second (h (x .message) .0 (x .in-first)))
-    go (inr (inr x)) = absurd (x .not-in-second (h (x .message) .1 (x .in-first)))
-
--- ---- the bytes of a list: of two parts, how many, and of one list alone
-bytes-append : (l k : List ListedMessage) → bytesOf (l ++ k) ≡ bytesOf l ++ bytesOf k
-unfolding bytesOf
-bytes-append [] k = refl
-bytes-append (m ∷ l) k = ap (λ (b : List ℕ). m .sender ∷ m .receiver ∷ m .round ∷ b) (bytes-append l k)
-
-bytes-length : (l : List ListedMessage) → length (bytesOf l) ≡ length l * 3
-unfolding bytesOf
-bytes-length [] = refl
-bytes-length (m ∷ l) = omega (arith, bytes-length l)
-
-bytes-tell : (l k : List ListedMessage) → bytesOf l ≡ bytesOf k → l ≡ k
-unfolding bytesOf
-bytes-tell [] [] e = refl
-bytes-tell (x ∷ l) [] e = absurd (cons≢nil e)
-bytes-tell [] (y ∷ k) e = absurd (nil≢cons e)
-bytes-tell (x ∷ l) (y ∷ k) e =
-    let e₁ = tail-eq-of-cons-eq e in
-    let e₂ = tail-eq-of-cons-eq e₁ in
-    λ i.
-    record {
-      sender = head-eq-of-cons-eq e i;
-      receiver = head-eq-of-cons-eq e₁ i;
-      round = head-eq-of-cons-eq e₂ i;
-    } ∷ bytes-tell l k (tail-eq-of-cons-eq e₂) i
-
--- ---- lists of messages, put together
--- one message, where a test says so
-lists-one : (b : Bool) (x : ListedMessage)
-    → Lists (λ m. (m ≡ x) × (b ≡ true)) (choose b (x .sender ∷ x .receiver ∷ x .round ∷ []) [])
-unfolding choose bytesOf
-lists-one true x =
-    record {
-      messages = x ∷ [];
-      spelt = refl;
-      rising = pairwise-singleton Before x;
-      exact = λ m. (λ u. (in-one u, refl), λ u. here (u .0));
-    }
-lists-one false x =
-    record {
-      messages = [];
-      spelt = refl;
-      rising = Pairwise·nil;
-      exact = λ m. (λ u. absurd (not-in u), λ u. clash false (u .1) refl);
-    }
-
--- one of P 0, P 1, .. P (n - 1) holds
-record Among (P : ℕ → ListedMessage → Type 0) (n : ℕ) (m : ListedMessage) : Type 0 where
-  index : ℕ
-  low : index < n
-  of : P index m
-
--- lists one after another, each of them before the next
-module _ (P : ℕ → ListedMessage → Type 0) (f : ℕ → List ℕ) (part : (k : ℕ) → Lists (P k) (f k))
-    (apart : (i j : ℕ) (x y : ListedMessage) → i < j → P i x → P j y → Before x y) where
-  lists-joined : (n : ℕ) → Lists (Among P n) (joined n f)
-  unfolding joined bytesOf
-  lists-joined zero =
-      record {
-        messages = [];
-        spelt = refl;
-        rising = Pairwise·nil;
-        exact = λ m. (λ u. absurd (not-in u), λ u. absurd (omega (arith, u .low)));
-      }
-  lists-joined (suc n) =
-      let v = lists-joined n in
-      let w = part n in
-      record {
-        messages = v .messages ++ w .messages;
-        spelt = ap₂ _++_ (v .spelt) (w .spelt) ∙ sym (bytes-append (v .messages) (w .messages));
-        rising =
-            pairwise-append before-prop .1 (
-              v .rising,
-              w .rising,
-              λ x p y q.
-                  ∥∥₁-elim p (before-prop x y) (λ p.
-                  ∥∥₁-elim q (before-prop x y) (λ q.
-                  let u = v .exact x .0 p in apart (u .index) n x y (u .low) (u .of) (w .exact y .0 q))),
-            );
-        exact = λ m. (
-          λ u.
-              ⊎-elim
-              (λ i. let a = v .exact m .0 i in record { index = a .index; low = omega (arith, a .low); of = a .of })
-              (λ i. record { index = n; low = omega arith; of = w .exact m .0 i })
-              (in-either (v .messages) u),
-          λ u.
-              ⊎-elim
-              (λ e. in-right (v .messages) (w .exact m .1 (subst (λ (k : ℕ). P k m) e (u .of))))
-              (λ e. in-left (w .messages) (v .exact m .1 (record { index = u .index; low = omega (arith, u .low); of = u .of })))
-              (eq-or (u .index) n),
-        );
-      }
+use Rattle.bench.specs.ListedLaws.{before-never, lists-as, lists-differ, lists-same, lists-one, lists-joined}
+use Rattle.bench.specs.ListedLaws.{Among, bytes-length, bytes-tell}
 
 -- ---- the list in transit
 module _ (s : Bench) where
-  -- m is that message, and in transit; one of those of a, one of round r, one of all
+  -- m is message r of a to b, and in transit; one of those of a; one of round r; one of all
   One : ℕ → ℕ → ℕ → ListedMessage → Type 0
-  One r a b m = (m ≡ message (a + 1) (b + 1) r) × (has (transitAt s a r) b ≡ true)
+  One r a b m = (m ≡ listed (a + 1) (b + 1) r) × (has (transitAt s a r) b ≡ true)
 
   abbrev OfSender : ℕ → ℕ → ListedMessage → Type 0
   OfSender r a = Among (One r a) (s .n)
@@ -294,47 +42,53 @@ module _ (s : Bench) where
   OfAll = Among OfRound (s .t + 2)
 
   of-message : (r a b : ℕ) → Lists (One r a b) (messageBytes (transitAt s a r) r a b)
-  unfolding messageBytes One message
-  of-message r a b = lists-one (has (transitAt s a r) b) (message (a + 1) (b + 1) r)
+  unfolding messageBytes One listed
+  of-message r a b = lists-one (has (transitAt s a r) b) (listed (a + 1) (b + 1) r)
 
   of-sender : (r a : ℕ) → Lists (OfSender r a) (joined (s .n) (messageBytes (transitAt s a r) r a))
-  unfolding One message
+  unfolding One listed
   of-sender r a =
       lists-joined (One r a) (messageBytes (transitAt s a r) r a) (of-message r a)
       (λ i j x y h p q. rw (p .0, q .0) (by-receiver refl refl (omega arith))) (s .n)
 
   of-round : (r : ℕ) → Lists (OfRound r) (joined (s .n) (λ a. joined (s .n) (messageBytes (transitAt s a r) r a)))
-  unfolding One message
+  unfolding One listed
   of-round r =
       lists-joined (OfSender r) (λ a. joined (s .n) (messageBytes (transitAt s a r) r a)) (of-sender r)
       (λ i j x y h p q. rw (p .of .0, q .of .0) (by-sender refl (omega arith))) (s .n)
 
   of-all : Lists OfAll (transitBytes s)
-  unfolding transitBytes One message
+  unfolding transitBytes One listed
   of-all =
       lists-joined OfRound (λ r. joined (s .n) (λ a. joined (s .n) (messageBytes (transitAt s a r) r a))) of-round
       (λ i j x y h p q. rw (p .of .of .0, q .of .of .0) (by-round (omega arith))) (s .t + 2)
 
-  named-in : (m : ListedMessage) → OfAll m → InTransit s m
-  unfolding One message
-  named-in m w =
-      let a = w .of .index in
-      let b = w .of .of .index in
+  -- in transit by numbers from 0, as the state has them
+  in-transit-mk : (a b r : ℕ) → a < s .n → b < s .n → r ≤ s .t + 1 → has (transitAt s a r) b ≡ true
+      → InTransit s (listed (a + 1) (b + 1) r)
+  unfolding listed
+  in-transit-mk a b r ha hb hr e =
       let ea : a + 1 - 1 ≡ a = omega arith in
       let eb : b + 1 - 1 ≡ b = omega arith in
+      record {
+        from = one-mk (s .n) (a + 1) (omega arith) (omega arith);
+        to = one-mk (s .n) (b + 1) (omega arith) (omega arith);
+        round = hr;
+        sent = rw (ea, eb) e;
+      }
+
+  named-in : (m : ListedMessage) → OfAll m → InTransit s m
+  unfolding One
+  named-in m w =
       subst (InTransit s) (sym (w .of .of .of .0))
-      (record {
-        from = one-mk (s .n) (a + 1) (omega arith) (omega (arith, w .of .low));
-        to = one-mk (s .n) (b + 1) (omega arith) (omega (arith, w .of .of .low));
-        round = omega (arith, w .low);
-        sent = rw (ea, eb) (w .of .of .of .1);
-      })
+      (in-transit-mk (w .of .index) (w .of .of .index) (w .index) (w .of .low) (w .of .of .low) (omega (arith, w .low))
+      (w .of .of .of .1))
 
   in-named : (m : ListedMessage) → InTransit s m → OfAll m
-  unfolding One message
+  unfolding One listed
   in-named m w =
-      let fl = one-low (s .n) (m .sender) (w .from) in
-      let tl = one-low (s .n) (m .receiver) (w .to) in
+      let la = one-low (s .n) (m .sender) (w .from) in
+      let lb = one-low (s .n) (m .receiver) (w .to) in
       let ea : m .sender ≡ m .sender - 1 + 1 = omega arith in
       let eb : m .receiver ≡ m .receiver - 1 + 1 = omega arith in
       record {
@@ -351,40 +105,37 @@ module _ (s : Bench) where
         };
       }
 
-  -- C-13: the list is strictly rising by round, sender and receiver, and names just the messages in transit
+  -- the list is strictly rising by round, sender and receiver, and names just the messages in transit
   pub transit-lists : Lists (InTransit s) (transitBytes s)
   transit-lists = lists-as OfAll (InTransit s) (transitBytes s) (λ m. (named-in m, in-named m)) of-all
 
-  -- no other bytes are such a list
+  -- and no other bytes are such a list
   pub transit-only : (bytes : List ℕ) → Lists (InTransit s) bytes → bytes ≡ transitBytes s
-  transit-only bytes w = lists-same (InTransit s) (InTransit s) bytes (transitBytes s) (λ m. (λ u. u, λ u. u)) w transit-lists
+  transit-only bytes w =
+      lists-same (InTransit s) (InTransit s) bytes (transitBytes s) (λ m. (λ u. u, λ u. u)) w transit-lists
 
   -- nothing stands twice
   pub transit-once : List·Nodup (transit-lists .messages)
   transit-once = Pairwise·nodup before-never (transit-lists .rising)
 
   -- the number that the call answers is how many they are
-  pub transit-count : length (transitBytes s) / 3 ≡ length (transit-lists .messages)
-  transit-count =
-      let l = transit-lists .messages in
-      omega (arith, ap length (transit-lists .spelt) ∙ bytes-length l)
+  pub transit-count : (out : List ℕ) → listRefusal s out ≡ 0 → listOf s out ≡ Count (length (transit-lists .messages))
+  transit-count out e =
+      let w = transit-lists in
+      let h : length (transitBytes s) / 3 ≡ length (w .messages) =
+      omega (arith, ap length (w .spelt) ∙ bytes-length (w .messages)) in
+      list-listed s out e .0 ∙ ap Count h
 
-  -- what is listed is what can arrive: exactly those pass check 7
+  -- what is listed is what can arrive: just those pass check 7
   pub transit-arrives : (a b : ℕ) (m : Message) → a < s .n → b < s .n → numberOf m ≤ s .t + 1
-      → In (message (a + 1) (b + 1) (numberOf m)) (transit-lists .messages) ↔ (passes7 (Arrive a b m) s ≡ true)
-  unfolding passes7 message
+      → In (listed (a + 1) (b + 1) (numberOf m)) (transit-lists .messages) ↔ (passes7 (Arrive a b m) s ≡ true)
+  unfolding passes7 listed
   transit-arrives a b m ha hb hr =
+      let x = listed (a + 1) (b + 1) (numberOf m) in
       let ea : a + 1 - 1 ≡ a = omega arith in
       let eb : b + 1 - 1 ≡ b = omega arith in (
-        λ u. rw (ea, eb) at (transit-lists .exact (message (a + 1) (b + 1) (numberOf m)) .0 u .sent),
-        λ u.
-            transit-lists .exact (message (a + 1) (b + 1) (numberOf m)) .1
-            (record {
-              from = one-mk (s .n) (a + 1) (omega arith) (omega arith);
-              to = one-mk (s .n) (b + 1) (omega arith) (omega arith);
-              round = hr;
-              sent = rw (ea, eb) u;
-            }),
+        λ u. rw (ea, eb) at (transit-lists .exact x .0 u .sent),
+        λ u. transit-lists .exact x .1 (in-transit-mk a b (numberOf m) ha hb hr u),
       )
 
 -- ---- two benches, of any two sizes

@@ -20,36 +20,22 @@ abbrev μ-loop : tie.MeasureT-loop
 put-set-requires : tie.Need-put-set-requires Inv-loop μ-loop
 unfolding roundBytes
 put-set-requires c κs =
-    let s = c .before .before .before .before .before in
-    let a = s .args in
+    let room = c .before .before .before .before .before .pre .3 in
     let l = c .before .before .loop in (
       search needs,
       search needs,
       omega arith,
       search needs,
-      stores-room (senderBytes (a .words .now) (a .n) (a .r)) (a .out .now) (a .at) (a .n) (l .a) (l .out) (l .place)
-          (c .before .loop-test .taken) (s .pre .3) (l .inv .1),
+      stores-room _ _ _ _ _ _ _ (c .before .loop-test .taken) room (l .inv .1),
     )
 
 loop-again : tie.Need-loop-again Inv-loop μ-loop
 loop-again c =
-    let a = c .before .before .before .before .before .before .before .before .args in
     let l = c .before .before .before .before .before .loop in
-    let p = c .before .before .put-set in (
-      search needs,
-      stores-more (senderBytes (a .words .now) (a .n) (a .r)) (a .out .now) (a .at) (l .a) (l .out) (l .place)
-          (p .last .0) (p .result) (l .inv .1) (p .ensures),
-    )
-
-same-length : tie.Need-same-length Inv-loop μ-loop
-same-length c =
-    let a = c .before .before .before .before .args in
-    let l = c .before .loop in
-    stores-length (a .out .now) (a .at) _ (l .out) (l .place) (l .inv .1)
+    (search needs, stores-more _ _ _ _ _ _ _ _ (l .inv .1) (c .before .before .put-set .ensures))
 
 pub put-round-spec : {M : Type 1} → statement M
 unfolding joined roundBytes
-put-round-spec = tie.close (tie.spec Inv-loop μ-loop
-    (λ c. (search needs, stores-none (c .before .before .args .out .now) (c .before .before .args .at)))
-    put-set-requires (λ c. search needs) (λ c. search needs) loop-again same-length
+put-round-spec = tie.close (tie.spec Inv-loop μ-loop (λ c. (search needs, stores-none _ _)) put-set-requires
+    (λ c. search needs) (λ c. search needs) loop-again (λ c. stores-length _ _ _ _ _ (c .before .loop .inv .1))
     (λ c. rw (le-antisymm (c .before .loop .inv .0) (c .loop-test .left)) at (c .before .loop .inv .1)))

@@ -1,6 +1,6 @@
 -- `put_set` stores the message for each receiver. The loop's invariant: what is stored is the
 -- bytes for the receivers below b.
-use Prim.Native.Nat.{ℕ, _+_, _*_, _≤_, _-_}
+use Prim.Native.Nat.{_+_, _*_, _≤_, _-_}
 use native.Mathlib.Nat.{le-antisymm}
 use native.Mathlib.Omega.{arith}
 use lib.ListN.{getD}
@@ -21,36 +21,22 @@ abbrev μ-loop : tie.MeasureT-loop
 put-message-requires : tie.Need-put-message-requires Inv-loop μ-loop
 unfolding senderBytes
 put-message-requires c κs =
-    let s = c .before .before .before .before .before in
-    let a = s .args in
+    let room = c .before .before .before .before .before .pre .4 in
     let l = c .before .before .loop in (
       search needs,
       search needs,
       omega arith,
       search needs,
-      stores-room (messageBytes (getD (a .words .now) (a .a * 17 + a .r) 0) (a .r) (a .a)) (a .out .now) (a .at) (a .n)
-          (l .b) (l .out) (l .place) (c .before .loop-test .taken) (s .pre .4) (l .inv .1),
+      stores-room _ _ _ _ _ _ _ (c .before .loop-test .taken) room (l .inv .1),
     )
 
 loop-again : tie.Need-loop-again Inv-loop μ-loop
 loop-again c =
-    let a = c .before .before .before .before .before .before .before .before .args in
     let l = c .before .before .before .before .before .loop in
-    let p = c .before .before .put-message in (
-      search needs,
-      stores-more (messageBytes (getD (a .words .now) (a .a * 17 + a .r) 0) (a .r) (a .a)) (a .out .now) (a .at) (l .b)
-          (l .out) (l .place) (p .last .0) (p .result) (l .inv .1) (p .ensures),
-    )
-
-same-length : tie.Need-same-length Inv-loop μ-loop
-same-length c =
-    let a = c .before .before .before .before .args in
-    let l = c .before .loop in
-    stores-length (a .out .now) (a .at) _ (l .out) (l .place) (l .inv .1)
+    (search needs, stores-more _ _ _ _ _ _ _ _ (l .inv .1) (c .before .before .put-message .ensures))
 
 pub put-set-spec : {M : Type 1} → statement M
 unfolding joined senderBytes
-put-set-spec = tie.close (tie.spec Inv-loop μ-loop
-    (λ c. (search needs, stores-none (c .before .before .args .out .now) (c .before .before .args .at)))
-    put-message-requires (λ c. search needs) (λ c. search needs) loop-again same-length
+put-set-spec = tie.close (tie.spec Inv-loop μ-loop (λ c. (search needs, stores-none _ _)) put-message-requires
+    (λ c. search needs) (λ c. search needs) loop-again (λ c. stores-length _ _ _ _ _ (c .before .loop .inv .1))
     (λ c. rw (le-antisymm (c .before .loop .inv .0) (c .loop-test .left)) at (c .before .loop .inv .1)))

@@ -27,8 +27,13 @@ put-round-requires c κs =
 
 loop-again : tie.Need-loop-again Inv-loop μ-loop
 loop-again c =
+    let a = c .before .before .before .before .before .before .before .before .args in
     let l = c .before .before .before .before .before .loop in
-    (search needs, stores-more _ _ _ _ _ _ _ _ (l .inv .1) (c .before .before .put-round .ensures))
+    let p = c .before .before .put-round in (
+      search needs,
+      stores-more (roundBytes (a .words .now) (a .n)) (a .out .now) 0 (l .r) (l .out) (l .place) (p .last .0)
+          (p .result) (l .inv .1) (p .ensures),
+    )
 
 pub put-all-spec : {M : Type 1} → statement M
 unfolding joined

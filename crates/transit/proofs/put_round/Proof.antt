@@ -31,8 +31,13 @@ put-set-requires c κs =
 
 loop-again : tie.Need-loop-again Inv-loop μ-loop
 loop-again c =
+    let a = c .before .before .before .before .before .before .before .before .args in
     let l = c .before .before .before .before .before .loop in
-    (search needs, stores-more _ _ _ _ _ _ _ _ (l .inv .1) (c .before .before .put-set .ensures))
+    let p = c .before .before .put-set in (
+      search needs,
+      stores-more (senderBytes (a .words .now) (a .n) (a .r)) (a .out .now) (a .at) (l .a) (l .out) (l .place)
+          (p .last .0) (p .result) (l .inv .1) (p .ensures),
+    )
 
 pub put-round-spec : {M : Type 1} → statement M
 unfolding joined roundBytes

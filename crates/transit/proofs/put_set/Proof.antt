@@ -32,8 +32,13 @@ put-message-requires c κs =
 
 loop-again : tie.Need-loop-again Inv-loop μ-loop
 loop-again c =
+    let a = c .before .before .before .before .before .before .before .before .args in
     let l = c .before .before .before .before .before .loop in
-    (search needs, stores-more _ _ _ _ _ _ _ _ (l .inv .1) (c .before .before .put-message .ensures))
+    let p = c .before .before .put-message in (
+      search needs,
+      stores-more (messageBytes (getD (a .words .now) (a .a * 17 + a .r) 0) (a .r) (a .a)) (a .out .now) (a .at) (l .b)
+          (l .out) (l .place) (p .last .0) (p .result) (l .inv .1) (p .ensures),
+    )
 
 pub put-set-spec : {M : Type 1} → statement M
 unfolding joined senderBytes

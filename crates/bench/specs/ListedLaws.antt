@@ -74,9 +74,10 @@ Told l k =
     ⊎ (Extra (λ m. In m l) (λ m. In m k) (bytesOf l) (bytesOf k)
     ⊎ Extra (λ m. In m k) (λ m. In m l) (bytesOf k) (bytesOf l))
 
-extra-here : (x : ListedMessage) (l k : List ListedMessage) → (In x k → ⊥)
+extra-here : (x : ListedMessage) (l k : List ListedMessage)
+    → ((y : ListedMessage) (k′ : List ListedMessage) → k ≡ y ∷ k′ → Before x y) → (In x k → ⊥)
     → Extra (λ m. In m (x ∷ l)) (λ m. In m k) (bytesOf (x ∷ l)) (bytesOf k)
-extra-here x l k h =
+extra-here x l k b h =
     record {
       above = [];
       message = x;
@@ -84,6 +85,7 @@ extra-here x l k h =
       other = k;
       first-is = refl;
       second-is = refl;
+      lesser = b;
       in-first = here refl;
       not-in-second = h;
     }
@@ -100,6 +102,7 @@ extra-later x y l k e p w =
       other = w .other;
       first-is = ap (λ (b : List ℕ). x .sender ∷ x .receiver ∷ x .round ∷ b) (w .first-is);
       second-is = rw (sym e, w .second-is);
+      lesser = w .lesser;
       in-first = later (w .in-first);
       not-in-second = λ h.
           ⊎-elim
@@ -116,13 +119,15 @@ not-there x y k b q h =
 told : (l k : List ListedMessage) → Pairwise Before l → Pairwise Before k → Told l k
 unfolding Told bytesOf
 told [] [] p q = inl refl
-told (x ∷ l) [] p q = inr (inl (extra-here x l [] not-in))
-told [] (y ∷ k) p q = inr (inr (extra-here y k [] not-in))
+told (x ∷ l) [] p q = inr (inl (extra-here x l [] (λ y k e. absurd (nil≢cons e)) not-in))
+told [] (y ∷ k) p q = inr (inr (extra-here y k [] (λ x l e. absurd (nil≢cons e)) not-in))
 told (x ∷ l) (y ∷ k) p q = go (told l k (pairwise-cons .0 p .1) (pairwise-cons .0 q .1)) (before-or x y)
   where
     go : Told l k → (x ≡ y) ⊎ (Before x y ⊎ Before y x) → Told (x ∷ l) (y ∷ k)
-    go w (inr (inl b)) = inr (inl (extra-here x l (y ∷ k) (not-there x y k b q)))
-    go w (inr (inr b)) = inr (inr (extra-here y k (x ∷ l) (not-there y x l b p)))
+    go w (inr (inl b)) =
+        inr (inl (extra-here x l (y ∷ k) (λ z m e. subst (Before x) (head-eq-of-cons-eq e) b) (not-there x y k b q)))
+    go w (inr (inr b)) =
+        inr (inr (extra-here y k (x ∷ l) (λ z m e. subst (Before y) (head-eq-of-cons-eq e) b) (not-there y x l b p)))
     go (inl d) (inl e) = inl (rw (e, d))
     go (inr (inl w)) (inl e) = inr (inl (extra-later x y l k e p w))
     go (inr (inr w)) (inl e) = inr (inr (extra-later y x k l (sym e) q w))
@@ -139,6 +144,7 @@ extra-as P Q first second v w x =
       other = x .other;
       first-is = v .spelt ∙ x .first-is;
       second-is = w .spelt ∙ x .second-is;
+      lesser = x .lesser;
       in-first = v .exact (x .message) .0 (x .in-first);
       not-in-second = λ q. x .not-in-second (w .exact (x .message) .1 q);
     }

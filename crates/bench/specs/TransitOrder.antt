@@ -46,7 +46,8 @@ pub record Lists (P : ListedMessage → Type 0) (bytes : List ℕ) : Type 0 wher
   pub rising : Pairwise Before messages
   pub exact : (m : ListedMessage) → In m messages ↔ P m
 
--- two such lists, read from the top: both begin with `above`, and then the first has a message that the second lacks
+-- two such lists, read from the top: both begin with `above`, and then the first has a message that the second lacks,
+-- which is the lesser one where both go on
 pub record Extra (P Q : ListedMessage → Type 0) (first second : List ℕ) : Type 0 where
   pub above : List ListedMessage
   pub message : ListedMessage
@@ -54,5 +55,6 @@ pub record Extra (P Q : ListedMessage → Type 0) (first second : List ℕ) : Ty
   pub other : List ListedMessage
   pub first-is : first ≡ bytesOf (above ++ (message ∷ rest))
   pub second-is : second ≡ bytesOf (above ++ other)
+  pub lesser : (y : ListedMessage) (l : List ListedMessage) → other ≡ y ∷ l → Before message y
   pub in-first : P message
   pub not-in-second : Q message → ⊥

@@ -154,7 +154,8 @@ module _ (s s′ : Bench) where
         λ u. v .exact m .0 (subst (In m) (sym d) (w .exact m .1 u)),
       )
 
-  -- where the lists differ, read from the top, the first that only one of them has is in transit on that bench alone
+  -- where the lists differ: of the messages at the first place that differs, read from the top, the lesser one is in
+  -- transit on one bench alone
   pub transit-differs : (transitBytes s ≡ transitBytes s′)
       ⊎ (Extra (InTransit s) (InTransit s′) (transitBytes s) (transitBytes s′)
       ⊎ Extra (InTransit s′) (InTransit s) (transitBytes s′) (transitBytes s))

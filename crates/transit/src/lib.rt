@@ -1,5 +1,5 @@
-// The list in transit: each message sent and not arrived, as sender, receiver and round in three
-// bytes; decisions have round 0.
+// The list in transit: each message sent and not arrived, as sender, receiver and round in three bytes; decisions have
+// round 0. By round, then by sender, then by receiver: one loop for each.
 use bench::Bench;
 use bench::Listed;
 use bench::Refusal;
@@ -59,7 +59,7 @@ fn put_round(out: &mut [u8], at: usize, n: u8, words: &[u16], r: u8) -> usize
     place
 }
 
-// Every message, in the order of rounds.
+// Every message, round by round.
 fn put_all(out: &mut [u8], n: u8, t: u8, words: &[u16]) -> usize
     requires { ⌜ (n ≤ 16) × (t < 16) × (length (now words) ≡ 272)
         × (length (joined (t + 2) (roundBytes (now words) n)) ≤ length (now out)) ⌝ }
@@ -103,7 +103,8 @@ fn all_messages(n: u8, t: u8, words: &[u16]) -> usize
     sum
 }
 
-// Lists the messages in transit in `out`, and gives how many there are. Nothing is written where it refuses.
+// Lists the messages in transit in `out`, by round, sender and receiver, and gives how many there are. Nothing is written
+// where it refuses.
 pub fn in_transit(b: Bench, out: &mut [u8]) -> Listed
     ensures { λ r. ⌜ r ≡ listOf b (now (out .entry)) ⌝ }
     ensures { λ r. ⌜ now (out .exit) ≡ listedIn b (now (out .entry)) ⌝ }

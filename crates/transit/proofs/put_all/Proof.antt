@@ -18,11 +18,13 @@ abbrev μ-loop : tie.MeasureT-loop
 put-round-requires : tie.Need-put-round-requires Inv-loop μ-loop
 put-round-requires c κs =
     let s = c .before .before .before .before .before in
+    let a = s .args in
     let l = c .before .before .loop in (
       search needs,
       omega arith,
       search needs,
-      stores-room _ _ _ (s .args .t + 2) _ _ _ (omega arith) (omega (arith, s .pre .3)) (l .inv .1),
+      stores-room (roundBytes (a .words .now) (a .n)) (a .out .now) 0 (a .t + 2) (l .r) (l .out) (l .place)
+          (omega arith) (omega (arith, s .pre .3)) (l .inv .1),
     )
 
 loop-again : tie.Need-loop-again Inv-loop μ-loop
@@ -35,9 +37,15 @@ loop-again c =
           (p .result) (l .inv .1) (p .ensures),
     )
 
+same-length : tie.Need-same-length Inv-loop μ-loop
+same-length c =
+    let a = c .before .before .before .before .args in
+    let l = c .before .loop in
+    stores-length (a .out .now) 0 (joined (l .r) (roundBytes (a .words .now) (a .n))) (l .out) (l .place) (l .inv .1)
+
 pub put-all-spec : {M : Type 1} → statement M
 unfolding joined
-put-all-spec = tie.close (tie.spec Inv-loop μ-loop (λ c. (search needs, stores-none _ _)) (λ c. search needs)
-    put-round-requires (λ c. search needs) (λ c. search needs) loop-again
-    (λ c. stores-length _ _ _ _ _ (c .before .loop .inv .1))
+put-all-spec = tie.close (tie.spec Inv-loop μ-loop
+    (λ c. (search needs, stores-none (c .before .before .args .out .now) 0)) (λ c. search needs) put-round-requires
+    (λ c. search needs) (λ c. search needs) loop-again same-length
     (λ c. rw (le-antisymm (c .before .loop .inv .0) (c .loop-test .left)) at (c .before .loop .inv .1)))

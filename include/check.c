@@ -1,5 +1,6 @@
-/* The header against the library: the layout, document 01's case 4 by every call, closings of other cases, standing values in a total, and
- * a byte in `decided`. Prints `ok`, or the line that failed. C11 and C++11. */
+/* The header against the library: the layout, document 01's case 4 by every call, closings of other cases, the order
+ * of the list in transit, standing values in a total, and a byte in `decided`. Prints `ok`, or the line that failed.
+ * C11 and C++11. */
 #include "gerzulan.h"
 
 #include <assert.h>
@@ -74,26 +75,36 @@ static int by_runs(void) {
     return 0;
 }
 
-/* Each of 3 processes sends to the others and receives from them, then closes the round. Gives whether each close ended as expected. */
-static int round_of_three(uint8_t round, uint8_t expected) {
+/* On `other`, a record of this kind for each sender and each other receiver, the highest first. Gives whether all were
+ * accepted. */
+static int each_pair(uint8_t kind, uint8_t senders, uint8_t receivers, uint8_t round) {
     struct gerzulan_counters tally = {0, 0, 0};
-    for (uint8_t kind = 2; kind <= 3; kind++) {
-        for (uint8_t a = 1; a <= 3; a++) {
-            for (uint8_t b = 1; b <= 3; b++) {
-                const uint8_t record[8] = {kind, a, b, (uint8_t)(kind == 3 ? round : 0), 0, 0, 0, 0};
-                if (a != b && (step(&other, record, 8, &tally) != 0 || closing != GERZULAN_NO_CLOSE)) {
-                    return 0;
-                }
+    for (uint8_t a = senders; a >= 1; a--) {
+        for (uint8_t b = receivers; b >= 1; b--) {
+            const uint8_t record[8] = {kind, a, b, round, 0, 0, 0, 0};
+            if (a != b && (step(&other, record, 8, &tally) != 0 || closing != GERZULAN_NO_CLOSE)) {
+                return 0;
             }
         }
     }
-    for (uint8_t a = 1; a <= 3; a++) {
+    return 1;
+}
+
+/* The processes up to `last` close their round. Gives whether each close ended as expected. */
+static int each_closes(uint8_t last, uint8_t expected) {
+    struct gerzulan_counters tally = {0, 0, 0};
+    for (uint8_t a = 1; a <= last; a++) {
         const uint8_t record[8] = {4, a, 0, 0, 0, 0, 0, 0};
         if (step(&other, record, 8, &tally) != 0 || closing != expected) {
             return 0;
         }
     }
     return 1;
+}
+
+/* Each of 3 processes sends to the others and receives from them, then closes the round. Gives whether each close ended as expected. */
+static int round_of_three(uint8_t round, uint8_t expected) {
+    return each_pair(2, 3, 3, 0) && each_pair(3, 3, 3, round) && each_closes(3, expected);
 }
 
 /* Case 2: n 3, t 2, no crash; all decide in round 2. */
@@ -120,6 +131,35 @@ static int last_round(void) {
     }
     CHECK(gerzulan_bench_open(&other, 2, 1) == 0);
     CHECK(run(&other, twice[0], 88, 99) == GERZULAN_EMPTY && progress.closing == GERZULAN_LAST_ROUND);
+    return 0;
+}
+
+/* n 4, t 1. 4 crashes in round 1; 1 and 2 decide in round 2, and 3 is still in it. Nothing arrives at 4, and at 3 only
+ * what is of round 1. The list runs by round, decisions first, then by sender, then by receiver; each round's are sent
+ * the other way round. */
+static int list_in_order(void) {
+    static const uint8_t expected[12][3] = {
+        {1, 2, 0}, {1, 3, 0}, {2, 1, 0}, {2, 3, 0}, {1, 4, 1}, {2, 4, 1},
+        {3, 4, 1}, {1, 3, 2}, {1, 4, 2}, {2, 3, 2}, {2, 4, 2}, {3, 4, 2},
+    };
+    static const uint8_t stop_4_noticed[3][8] = {{5, 4}, {6, 2, 4}, {6, 1, 4}};
+    struct gerzulan_counters tally = {0, 0, 0};
+    uint8_t list[13][3], before[13][3];
+    CHECK(gerzulan_bench_open(&other, 4, 1) == 0);
+    for (uint8_t a = 4; a >= 1; a--) {
+        const uint8_t start[8] = {1, a, 0, 0, 40, 0, 0, 0};
+        CHECK(step(&other, start, 8, &tally) == 0);
+    }
+    CHECK(each_pair(2, 4, 4, 0) && each_pair(3, 4, 3, 1) && each_closes(3, GERZULAN_NEXT_ROUND));
+    CHECK(each_pair(2, 3, 4, 0) && each_pair(3, 3, 2, 2));
+    CHECK(run(&other, stop_4_noticed[0], 24, 3) == GERZULAN_EMPTY);
+    CHECK(each_closes(2, GERZULAN_LAST_ROUND) && each_pair(2, 2, 3, 0));
+    memset(list, 0xA5, sizeof list);
+    memset(before, 0xA5, sizeof before);
+    CHECK(GERZULAN_REFUSAL(gerzulan_bench_in_transit(&other, list[0], 35)) == 10);
+    CHECK(memcmp(list, before, sizeof list) == 0);
+    CHECK(gerzulan_bench_in_transit(&other, list[0], 39) == 12 && memcmp(list, expected, 36) == 0);
+    CHECK(memcmp(list[12], before[12], 3) == 0);
     return 0;
 }
 
@@ -191,7 +231,8 @@ static int decided_byte(void) {
 }
 
 int main(void) {
-    if (one_by_one() || by_runs() || agreed() || last_round() || reads() || totals() || decided_byte()) {
+    if (one_by_one() || by_runs() || agreed() || last_round() || list_in_order() || reads() || totals() ||
+        decided_byte()) {
         return 1;
     }
     puts("ok");

@@ -85,7 +85,7 @@ uint32_t gerzulan_bench_run(struct gerzulan_bench *bench, const uint8_t *schedul
 uint64_t gerzulan_bench_global_data(const struct gerzulan_bench *bench, uint8_t process, uint32_t *out, size_t length);
 
 /* Writes sender, receiver and round of each message in transit, a byte each, and gives how many there are: by round with decisions first as
- * round 0, then by sender, then by receiver, so that the same messages are the same bytes. Refusals 2, 10. */
+ * round 0, then by sender, then by receiver, so that the same messages are the same bytes. Bytes past them stay. Refusals 2, 10. */
 uint64_t gerzulan_bench_in_transit(const struct gerzulan_bench *bench, uint8_t *out, size_t length);
 
 /* Aggregates of n entries with their marks: 0, and the words after them are written; or a refusal, 1, 5, 10 or 12. No word under an absent

@@ -180,3 +180,63 @@ try standing-length-before-1 src/aggregates.rs \
 try standing-length-before-5 src/aggregates.rs \
     'pub fn total(n: u8, entries: &[u32], present: u16, standing: &[u32]) -> Result<u64, Refusal> {' \
     'pub fn total(n: u8, entries: &[u32], present: u16, standing: &[u32]) -> Result<u64, Refusal> { check_n(n)?; if standing.len() != n as usize { return Err(Refusal::Slice); }'
+
+# The list in transit.
+list='for (place, message) in out.chunks_exact_mut(3).zip(self.messages()) {'
+# order NAME KEY: the list in another order.
+order() {
+    try "$1" src/read.rs "$list" \
+        "let mut sorted: Vec<[u8; 3]> = self.messages().collect(); sorted.sort_by_key(|&[a, b, r]| $2); for (place, message) in out.chunks_exact_mut(3).zip(sorted) {"
+}
+# only NAME CONDITION: only these messages are listed, and counted.
+only() {
+    try "$1" src/read.rs 'members(receivers).map(move |b| [a as u8 + 1, b as u8 + 1, r])' \
+        "members(receivers).filter(move |&b| $2).map(move |b| [a as u8 + 1, b as u8 + 1, r])"
+}
+order sender-before-round '(a, r, b)'
+order by-its-bytes '(a, b, r)'
+order receiver-before-sender '(r, b, a)'
+order decisions-by-receiver 'if r == 0 { (r, b, a) } else { (r, a, b) }'
+order decisions-last '(r.wrapping_sub(1), a, b)'
+order later-rounds-first '(r.wrapping_neg(), a, b)'
+order higher-senders-first '(r, !a, b)'
+order higher-receivers-first '(r, a, !b)'
+order receivers-above-8-first '(r, a, b <= 8, b)'
+order senders-as-text '(r, a.to_string(), b)'
+only crashed-senders-not-listed '!self.has_crashed(a)'
+only crashed-receivers-not-listed '!self.has_crashed(b)'
+only estimates-of-the-decided-not-listed 'r == 0 || !self.processes[a].has_decided()'
+only to-the-decided-not-listed '!self.processes[b].has_decided()'
+only to-the-unstarted-not-listed 'self.processes[b].round != 0'
+only rounds-left-not-listed 'r == 0 || r >= self.processes[b].round'
+only suspected-senders-not-listed 'self.processes[b].suspected & bit(a) == 0'
+only own-messages-not-listed 'b != a'
+try list-without-decisions src/read.rs \
+    '(0..=self.t + 1).flat_map(senders).flat_map(move |(a, r)| {' '(1..=self.t + 1).flat_map(senders).flat_map(move |(a, r)| {'
+try decisions-listed-twice src/read.rs \
+    '(0..=self.t + 1).flat_map(senders).flat_map(move |(a, r)| {' \
+    'std::iter::once(0).chain(0..=self.t + 1).flat_map(senders).flat_map(move |(a, r)| {'
+try rounds-past-the-last-listed src/read.rs \
+    '(0..=self.t + 1).flat_map(senders).flat_map(move |(a, r)| {' \
+    '(0..Bench::SLOTS as u8).flat_map(senders).flat_map(move |(a, r)| {'
+try senders-past-n-listed src/read.rs \
+    'let senders = move |r| members(self.everyone()).map(move |a| (a, r));' \
+    'let senders = move |r| members(u16::MAX).map(move |a| (a, r));'
+try last-message-not-listed src/read.rs \
+    'let count = self.count_in_transit();' 'let count = self.count_in_transit().saturating_sub(1);'
+try round-written-first src/read.rs \
+    'place.copy_from_slice(&message);' 'place.copy_from_slice(&[message[2], message[0], message[1]]);'
+try receiver-written-first src/read.rs \
+    'place.copy_from_slice(&message);' 'place.copy_from_slice(&[message[1], message[0], message[2]]);'
+room='let out = out.get_mut(..3 * count).ok_or(Refusal::Slice)?;'
+try what-fits-is-written src/read.rs "$room" \
+    "out.chunks_exact_mut(3).zip(self.messages()).for_each(|(place, message)| place.copy_from_slice(&message)); $room"
+try a-byte-short-is-taken src/read.rs "$room" \
+    "let whole = if out.len() + 1 == 3 * count { 3 * count - 3 } else { 3 * count }; let out = out.get_mut(..whole).ok_or(Refusal::Slice)?;"
+try longer-slice-refused src/read.rs "$room" \
+    "if out.len() > 3 * count { return Err(Refusal::Slice); } $room"
+try bytes-past-the-list-cleared src/read.rs "$room" \
+    "if let Some(past) = out.get_mut(3 * count..) { past.fill(0); } $room"
+try short-slice-before-damage src/read.rs \
+    'pub fn list_in_transit(&self, out: &mut [u8]) -> Result<usize, Refusal> {' \
+    'pub fn list_in_transit(&self, out: &mut [u8]) -> Result<usize, Refusal> { let bits: u32 = self.in_transit.iter().map(|set| set.count_ones()).sum(); if !self.is_sound() && out.len() < 3 * bits as usize { return Err(Refusal::Slice); }'

@@ -4,6 +4,7 @@
 use crate::check::check_closing;
 use crate::gen::{self, Accepted, Adversary, Rng};
 use crate::layout::{bit, members};
+use crate::listed::{bits, by_rule, check_given, held, lengths, Call, Given};
 use crate::met::{
     call, Lists, Met, GLOBAL_DATA, IN_TRANSIT, OF_BOTH_GROUNDS, OF_RECORD, OF_RUN, RUN, TELLING, WAITING,
 };
@@ -18,6 +19,8 @@ use std::fmt::Debug;
 struct Pair {
     proved: Bench,
     plain: Bench,
+    /// A schedule has led to the state.
+    reached: bool,
     proved_tally: Counters,
     plain_tally: Counters,
     place: String,
@@ -28,7 +31,14 @@ struct Pair {
 impl Pair {
     fn new(bench: Bench, place: String) -> Pair {
         let (proved_tally, plain_tally) = Default::default();
-        Pair { proved: bench, plain: bench, proved_tally, plain_tally, place, calls: 0, met: Met::default() }
+        let (reached, met) = (false, Met::default());
+        Pair { proved: bench, plain: bench, reached, proved_tally, plain_tally, place, calls: 0, met }
+    }
+
+    /// From a new bench along a schedule.
+    fn opened(n: u8, t: u8, place: String) -> Pair {
+        let bench = Bench::open(n, t).expect("a good size");
+        Pair { reached: true, ..Pair::new(bench, place) }
     }
 
     fn same<T: PartialEq + Debug>(&self, what: &str, proved: T, plain: T) {
@@ -229,14 +239,35 @@ impl Pair {
     /// The list in transit, in a slice of this length; gives its refusal or 0.
     fn list(&mut self, length: usize, rng: &mut Rng) -> u8 {
         let before: Vec<u8> = (0..length).map(|_| rng.draw() as u8).collect();
-        let (mut proved_out, mut plain_out) = (before.clone(), before);
+        let (mut proved_out, mut plain_out) = (before.clone(), before.clone());
         let proved = proved::in_transit(&self.proved, &mut proved_out);
         let plain = self.plain.list_in_transit(&mut plain_out);
         self.calls += 1;
         self.met.answer(number(&plain));
         self.same("messages", proved, plain.map_err(|refusal| refusal.number() as u32));
         self.same("list", &proved_out, &plain_out);
+        self.list_by_rule(&before, (proved, proved_out));
         number(&plain)
+    }
+
+    /// What the proved library gave by the rule, so that the two are not only the same; counts what the call met.
+    fn list_by_rule(&mut self, before: &[u8], given: Given) {
+        let messages = held(&self.proved);
+        if let Err(broken) = check_given(&given, &by_rule(&self.proved, &messages, before)) {
+            panic!("{}, call {}: {broken}", self.place, self.calls);
+        }
+        let (bench, length, answer) = (&self.proved, before.len(), given.0);
+        let call = Call { bench, messages: &messages, length, answer };
+        self.met.listed[usize::from(self.reached)].count(&call);
+    }
+
+    /// The list in transit of this state, in slices long and short.
+    fn list_each_way(&mut self, bench: &Bench, rng: &mut Rng) {
+        self.put(bench);
+        for length in lengths(held(bench).len()) {
+            self.list(length, rng);
+        }
+        self.same_state("state after reading");
     }
 
     /// A record by the call for one and by run, on the same state, where `byte` is that of the process that acts.
@@ -260,7 +291,7 @@ impl Pair {
             self.met.bytes.count(GLOBAL_DATA, usize::from(refused != 0), byte);
         }
         self.met.bytes.count(GLOBAL_DATA, TELLING, byte);
-        let messages = bench.in_transit.iter().map(|set| set.count_ones() as usize).sum::<usize>();
+        let messages = bits(bench);
         for length in [3 * messages, (3 * messages).saturating_sub(1), 2] {
             let refused = self.list(length, rng);
             self.met.bytes.count(IN_TRANSIT, usize::from(refused != 0), byte);
@@ -402,8 +433,7 @@ pub fn openings(seed: u64) -> Met {
 /// A schedule of records given one by one, `noise` in 100 of them doubtful, and the reading calls between them.
 pub fn one_by_one(n: u8, t: u8, seed: u64, noise: usize) -> Met {
     let mut rng = Rng::new(seed ^ 0x5ca1ab1e);
-    let bench = Bench::open(n, t).expect("a good size");
-    let mut pair = Pair::new(bench, format!("seed {seed}, n {n}, t {t}, one by one"));
+    let mut pair = Pair::opened(n, t, format!("seed {seed}, n {n}, t {t}, one by one"));
     for record in gen::records(n, t, seed, noise) {
         pair.step(&record, &mut rng);
         if rng.percent(2) {
@@ -417,8 +447,7 @@ pub fn one_by_one(n: u8, t: u8, seed: u64, noise: usize) -> Met {
 /// A schedule by runs.
 pub fn by_runs(n: u8, t: u8, seed: u64, noise: usize) -> Met {
     let mut rng = Rng::new(seed ^ 0xb0d9e7);
-    let bench = Bench::open(n, t).expect("a good size");
-    let mut pair = Pair::new(bench, format!("seed {seed}, n {n}, t {t}, by runs"));
+    let mut pair = Pair::opened(n, t, format!("seed {seed}, n {n}, t {t}, by runs"));
     pair.runs(&gen::schedule(n, t, seed, noise), &mut rng);
     pair.reads(&mut rng);
     pair.met
@@ -450,6 +479,38 @@ pub fn other_states(n: u8, t: u8, seed: u64) -> Met {
     pair.reads(&mut rng);
     pair.closes(&state, &mut rng);
     pair.met
+}
+
+/// The list in transit along a schedule, then on states that mostly no schedule reaches.
+pub fn lists(n: u8, t: u8, seed: u64) -> Met {
+    // Another adversary for each size: what one never does, others do.
+    let mut rng = Rng::new(seed ^ 0x1157ed ^ (n as u64) << 48 ^ (t as u64) << 56);
+    let mut pair = Pair::opened(n, t, format!("seed {seed}, n {n}, t {t}, lists"));
+    let mut bench = pair.plain;
+    for record in gen::records(n, t, rng.draw(), 0) {
+        bench.step_sound(&record).expect("it was accepted");
+        if rng.percent(10) {
+            pair.list_each_way(&bench, &mut rng);
+        }
+    }
+    pair.reached = false;
+    lists_of_others(&mut pair, &mut rng);
+    pair.met
+}
+
+/// With everything in transit; then with much or little in transit, sound and damaged.
+fn lists_of_others(pair: &mut Pair, rng: &mut Rng) {
+    let (n, t) = (pair.plain.n, pair.plain.t);
+    pair.list_each_way(&gen::everything_in_transit(n, t), rng);
+    for (junk, thin) in [(false, false), (false, true), (true, false), (true, true)] {
+        let mut state = gen::random_state(rng, n, t, junk);
+        if thin {
+            gen::thin_out(rng, &mut state);
+        }
+        pair.list_each_way(&state, rng);
+        gen::damage(rng, &mut state);
+        pair.list_each_way(&state, rng);
+    }
 }
 
 /// Sizes, and how often over all of them, for `decided_bytes`.
@@ -572,8 +633,8 @@ fn greatest_totals(pair: &mut Pair, rng: &mut Rng) {
 /// Everything, for every n and t, from one seed: `schedules` schedules of each kind for each size.
 pub fn everything(seed: u64, schedules: u64) -> Met {
     let mut met = openings(seed);
-    for round in 0..schedules {
-        let seed = seed.wrapping_add(round.wrapping_mul(1_000_003));
+    let seeds = || (0..schedules).map(|round| seed.wrapping_add(round.wrapping_mul(1_000_003)));
+    for seed in seeds() {
         met.add(&any_aggregates(seed));
         for (n, t) in gen::sizes() {
             let noise = [0, 20, 60][((seed ^ n as u64) % 3) as usize];
@@ -581,6 +642,10 @@ pub fn everything(seed: u64, schedules: u64) -> Met {
             met.add(&by_runs(n, t, seed, noise));
             met.add(&other_states(n, t, seed));
         }
+    }
+    // After all else, so that what the rest finds first is still found there.
+    for seed in seeds() {
+        gen::sizes().for_each(|(n, t)| met.add(&lists(n, t, seed)));
     }
     met
 }

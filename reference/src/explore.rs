@@ -127,7 +127,7 @@ impl Walk {
             }
             self.found.last_round = self.found.last_round.max(p.round);
         }
-        check_list(&self.bench, &held(&self.bench), &mut self.found.listed)?;
+        check_list(&self.bench, &held(&self.bench), self.seen.length, &mut self.found.listed)?;
         self.check_decisions()
     }
 

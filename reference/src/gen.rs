@@ -331,6 +331,20 @@ pub fn random_state(rng: &mut Rng, n: u8, t: u8, junk: bool) -> Bench {
     bench
 }
 
+/// Takes most of what is in transit away, so that lists are short.
+pub fn thin_out(rng: &mut Rng, bench: &mut Bench) {
+    bench.in_transit.iter_mut().filter(|_| rng.percent(90)).for_each(|set| *set = 0);
+}
+
+/// A new bench but with everything in transit that n and t allow, to the senders themselves too.
+pub fn everything_in_transit(n: u8, t: u8) -> Bench {
+    let mut bench = Bench::open(n, t).expect("a good size");
+    for slots in bench.in_transit.chunks_mut(Bench::SLOTS).take(n as usize) {
+        slots[..t as usize + 2].fill(all(n));
+    }
+    bench
+}
+
 fn random_process(rng: &mut Rng, everyone: u16, t: u8, junk: bool) -> Process {
     let current = rng.subset(everyone);
     let mut received = [0; Bench::MAX];

@@ -32,6 +32,11 @@ pub fn held(bench: &Bench) -> Vec<InTransit> {
     held
 }
 
+/// How much a state holds in all, also of no process of the bench or of no round.
+pub fn bits(bench: &Bench) -> usize {
+    bench.in_transit.iter().map(|set| set.count_ones() as usize).sum()
+}
+
 /// What the call must give with this slice, where exactly `messages`, in order, are in transit. Of the bench it asks
 /// only whether it is damaged.
 pub fn by_rule(bench: &Bench, messages: &[InTransit], before: &[u8]) -> Given {
@@ -48,8 +53,8 @@ pub fn by_rule(bench: &Bench, messages: &[InTransit], before: &[u8]) -> Given {
     (Ok(messages.len()), out)
 }
 
-/// The first place where what was given differs from the rule.
-pub fn same(given: &Given, rule: &Given) -> Result<(), Broken> {
+/// Nothing, or the first place where what was given is not by the rule.
+pub fn check_given(given: &Given, rule: &Given) -> Result<(), Broken> {
     if given.0 != rule.0 {
         return Err(format!("list: {:?}, by the rule {:?}", given.0, rule.0));
     }
@@ -59,20 +64,26 @@ pub fn same(given: &Given, rule: &Given) -> Result<(), Broken> {
     }
 }
 
-/// Lengths of a slice for this many messages: with bytes left over, just enough, a byte short, with room for some, none.
+/// Lengths of a slice for so many messages: with bytes left over, just enough, a byte short, with room for some, none.
 pub fn lengths(messages: usize) -> [usize; 5] {
     let whole = 3 * messages;
     [whole + 4, whole, whole.saturating_sub(1), whole / 2, 0]
 }
 
-/// The bench's own call against the rule, in slices of all these lengths, where exactly `messages`, in order, are in
-/// transit.
-pub fn check_list(bench: &Bench, messages: &[InTransit], met: &mut Listed) -> Result<(), Broken> {
-    for length in lengths(messages.len()) {
+/// The bench's own call against the rule, where exactly `messages`, in order, are in transit: in a slice with bytes
+/// left over, and in one of the other lengths by turns.
+pub fn check_list(
+    bench: &Bench,
+    messages: &[InTransit],
+    turn: usize,
+    met: &mut Listed,
+) -> Result<(), Broken> {
+    let [longest, others @ ..] = lengths(messages.len());
+    for length in [longest, others[turn % others.len()]] {
         let before = vec![UNWRITTEN; length];
         let mut out = before.clone();
         let answer = bench.list_in_transit(&mut out).map_err(|refusal| refusal.number() as u32);
-        same(&(answer, out), &by_rule(bench, messages, &before))?;
+        check_given(&(answer, out), &by_rule(bench, messages, &before))?;
         met.count(&Call { bench, messages, length, answer });
     }
     Ok(())
@@ -95,17 +106,19 @@ pub const OTHER: u8 = Bench::MAX as u8 + 1;
 
 type Meets = fn(&Call) -> bool;
 
-/// What a call can meet, and from which n on a schedule can. Another order would show in the first eight of those listed.
+/// What a call can meet, and from which n on a schedule can. Another order shows in those of two messages.
 const KINDS: [(&str, u8, Meets); 26] = [
     ("none", 1, |x| x.answer == Ok(0)),
-    ("decision, then estimate", 2, |x| x.next_to(|p, q| p.r == 0 && q.r > 0)),
-    ("estimate, then one of a later round", 2, |x| x.next_to(|p, q| p.r > 0 && p.r < q.r)),
-    ("decision, then estimate of a lower sender", 2, |x| x.next_to(|p, q| p.r == 0 && q.r > 0 && p.a > q.a)),
-    ("later round of a lower sender", 3, |x| x.next_to(|p, q| p.r > 0 && p.r < q.r && p.a > q.a)),
-    ("decisions, the later sender's to a lower receiver", 2, |x| x.next_to(|p, q| q.r == 0 && crossed(p, q))),
-    ("estimates, the later sender's to a lower receiver", 2, |x| {
-        x.next_to(|p, q| p.r == q.r && q.r > 0 && crossed(p, q))
+    ("estimate after a decision", 2, |x| x.next_to(|p, q| p.r == 0 && q.r > 0)),
+    ("estimate after one of an earlier round", 2, |x| x.next_to(|p, q| p.r > 0 && p.r < q.r)),
+    ("estimate of a lower sender after a decision", 3, |x| {
+        x.next_to(|p, q| p.r == 0 && q.r > 0 && p.a > q.a)
     }),
+    ("estimate of a lower sender after one of an earlier round", 3, |x| {
+        x.next_to(|p, q| p.r > 0 && p.r < q.r && p.a > q.a)
+    }),
+    ("crossed decisions", 2, |x| x.next_to(|p, q| q.r == 0 && crossed(p, q))),
+    ("crossed estimates", 2, |x| x.next_to(|p, q| q.r > 0 && crossed(p, q))),
     ("decision to two", 3, |x| x.next_to(|p, q| q.r == 0 && p.a == q.a)),
     ("estimate to two", 3, |x| x.next_to(|p, q| p.r == q.r && q.r > 0 && p.a == q.a)),
     ("receivers in both bytes of a set", 9, |x| {
@@ -120,13 +133,13 @@ const KINDS: [(&str, u8, Meets); 26] = [
     ("of a round that its receiver has left", 2, |x| x.some(|m, x| m.r > 0 && m.r < x.process(m.b).round)),
     ("of a suspected sender", 2, |x| x.some(|m, x| x.process(m.b).suspected & bit(m.a as usize - 1) != 0)),
     ("to the sender itself", OTHER, |x| x.some(|m, _| m.a == m.b)),
-    ("besides bits of no process or round", OTHER, |x| x.answer.is_ok() && x.bits() > x.messages.len()),
+    ("besides bits of no process or round", OTHER, |x| x.answer.is_ok() && bits(x.bench) > x.messages.len()),
     ("every message of 16", OTHER, |x| x.answer == Ok(16 * 16 * 17)),
     ("just enough room", 2, |x| x.some(|_, x| x.length == 3 * x.messages.len())),
     ("a byte short", 2, |x| x.answer == Err(10) && x.length + 1 == 3 * x.messages.len()),
     ("room for some", 2, |x| x.answer == Err(10) && x.length >= 3),
-    ("damaged, with room", OTHER, |x| x.answer == Err(2) && x.length >= 3 * x.messages.len()),
-    ("damaged, without room", OTHER, |x| x.answer == Err(2) && x.length < 3 * x.messages.len()),
+    ("damaged with room", OTHER, |x| x.answer == Err(2) && x.length >= 3 * x.messages.len()),
+    ("damaged without room", OTHER, |x| x.answer == Err(2) && x.length < 3 * x.messages.len()),
 ];
 
 /// Of two messages of one round, the later sender's goes to the lower receiver.
@@ -147,11 +160,6 @@ impl Call<'_> {
 
     fn process(&self, number: u8) -> &Process {
         &self.bench.processes[number as usize - 1]
-    }
-
-    /// All that the state holds, whether or not it is between two processes of the bench.
-    fn bits(&self) -> usize {
-        self.bench.in_transit.iter().map(|set| set.count_ones() as usize).sum()
     }
 }
 

@@ -2,11 +2,13 @@
 
 use crate::kinds::Kinds;
 use crate::layout::{all, members};
+use crate::listed::Listed;
 use crate::{Closing, Event, Message};
 use std::cmp::Ordering::{self, Equal, Greater, Less};
 use std::ops::Range;
 
-/// What was met: records given, answers by their number, 0 for none refused, closings, bytes in `decided`, and totals.
+/// What was met: records given, answers by their number, 0 for none refused, closings, bytes in `decided`, totals, and
+/// lists in transit, first of other states, then of those that a schedule reaches.
 #[derive(Clone, Default, Debug)]
 pub struct Met {
     pub records: u64,
@@ -15,6 +17,7 @@ pub struct Met {
     pub closings: Closings,
     pub bytes: Bytes,
     pub totals: Totals,
+    pub listed: [Listed; 2],
 }
 
 /// How often each closing was met, by its number, and where, as in `ENDS`.
@@ -218,6 +221,7 @@ impl Met {
         self.closings.add(&other.closings);
         self.bytes.add(&other.bytes);
         self.totals.0.add(&other.totals.0);
+        self.listed.iter_mut().zip(&other.listed).for_each(|(sum, more)| sum.add(more));
         for (sum, more) in self.answers.iter_mut().zip(other.answers) {
             *sum += more;
         }
@@ -232,12 +236,14 @@ impl Met {
         let refusals: Vec<String> =
             (1..=12).map(|number| format!("{number}: {}", self.answers[number])).collect();
         format!(
-            "{} records, {} accepted; refusals {}; closings {}; totals {}",
+            "{} records, {} accepted; refusals {}; closings {}; totals {}; lists of schedules {}, of other states {}",
             self.records,
             self.accepted,
             refusals.join(", "),
             self.closings.report(),
-            self.totals.report()
+            self.totals.report(),
+            self.listed[1].report(),
+            self.listed[0].report()
         )
     }
 }

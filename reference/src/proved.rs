@@ -121,7 +121,7 @@ pub fn global_data(bench: &Bench, process: u8, out: &mut [u32]) -> Result<u16, u
     given(answer).map(|marks| marks as u16)
 }
 
-/// Writes (a, b, r) for each message in transit, and gives how many there are.
+/// Writes (a, b, r) for each message in transit, by r, then a, then b, and gives how many there are.
 pub fn in_transit(bench: &Bench, out: &mut [u8]) -> Result<usize, u32> {
     // SAFETY: as in `step`.
     let answer = unsafe { library::gerzulan_bench_in_transit(bench, out.as_mut_ptr(), out.len()) };

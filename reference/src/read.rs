@@ -61,6 +61,7 @@ impl Bench {
 #[cfg(test)]
 mod tests {
     use super::*;
+    use crate::gen::everything_in_transit;
     use crate::Record;
 
     fn decided() -> Bench {
@@ -106,6 +107,19 @@ mod tests {
     }
 
     #[test]
+    fn everything_is_listed_in_order() {
+        let mut expected = Vec::new();
+        for r in 0..=16 {
+            for a in 1..=16 {
+                (1..=16).for_each(|b| expected.extend([a, b, r]));
+            }
+        }
+        let mut out = vec![99; expected.len()];
+        assert_eq!(everything_in_transit(16, 15).list_in_transit(&mut out), Ok(4352));
+        assert_eq!(out, expected);
+    }
+
+    #[test]
     fn in_transit_refusals() {
         let mut bench = Bench::open(2, 1).unwrap();
         assert_eq!(bench.list_in_transit(&mut []), Ok(0));
@@ -114,7 +128,10 @@ mod tests {
         let mut out = [9; 2];
         assert_eq!(bench.list_in_transit(&mut out), Err(Refusal::Slice));
         assert_eq!(out, [9; 2]);
+        bench.crashed = 4;
+        assert_eq!(bench.list_in_transit(&mut out), Err(Refusal::Damaged));
         bench.n = 0;
         assert_eq!(bench.list_in_transit(&mut out), Err(Refusal::Damaged));
+        assert_eq!(out, [9; 2]);
     }
 }

@@ -1,5 +1,5 @@
-//! Cases 1 to 8 of the paper, the examples of its table of refusals, its five slips, how rounds end, and totals of what
-//! is decided.
+//! Cases 1 to 8 of the paper, the examples of its table of refusals, its five slips, how rounds end, totals of what is
+//! decided, and the list in transit in its order.
 
 use reference::aggregates::total;
 use reference::refusal::number;
@@ -49,13 +49,16 @@ fn data(entries: &[Option<u32>]) -> GlobalData {
     data
 }
 
+/// A line for each sender and each other receiver.
+fn pairs(word: &str, senders: &[u8], receivers: &[u8], end: &str) -> String {
+    let others = |&a| receivers.iter().filter(move |&&b| b != a).map(move |b| (a, b));
+    senders.iter().flat_map(others).map(|(a, b)| format!("{word} {a} {b}{end}\n")).collect()
+}
+
 /// Each of n processes sends and receives its estimate of a round.
 fn exchange(n: u8, round: u8) -> String {
-    let pairs = move |word: &str, end: String| -> String {
-        let others = |a| (1..=n).filter(move |&b| b != a).map(move |b| (a, b));
-        (1..=n).flat_map(others).map(|(a, b)| format!("{word} {a} {b}{end}\n")).collect()
-    };
-    pairs("send", String::new()) + &pairs("arrive", format!(" round {round}"))
+    let all: Vec<u8> = (1..=n).collect();
+    pairs("send", &all, &all, "") + &pairs("arrive", &all, &all, &format!(" round {round}"))
 }
 
 #[test]
@@ -345,6 +348,44 @@ fn arrivals() {
     let p = after(&text).processes[0];
     assert_eq!((p.round, p.current), (2, 0b011));
     assert!(p.estimate.same(&data(&[Some(1), Some(2)])));
+}
+
+/// 4 crashed in round 1; 1 and 2 have decided in round 2, which is t+1; 3 is still in it. Nothing has arrived at 4, and
+/// at 3 only what is of round 1. The processes act from 1 on, or from the highest down.
+fn much_in_transit(highest_first: bool) -> Bench {
+    let up_to = |n: u8| -> Vec<u8> {
+        let rising = 1..=n;
+        if highest_first {
+            rising.rev().collect()
+        } else {
+            rising.collect()
+        }
+    };
+    let each = |word: &str, n: u8, end: &str| -> String {
+        up_to(n).iter().map(|a| format!("{word} {a}{end}\n")).collect()
+    };
+    let pairs = |word, senders, receivers, end| pairs(word, &up_to(senders), &up_to(receivers), end);
+    let round_1 = pairs("send", 4, 4, "") + &pairs("arrive", 4, 3, " round 1") + &each("close", 3, "");
+    let round_2 = pairs("send", 3, 4, "") + &pairs("arrive", 3, 2, " round 2");
+    let decisions = each("notice", 2, " 4") + &each("close", 2, "") + &pairs("send", 2, 3, "");
+    after(
+        &("open 4 1\n".to_string() + &each("start", 4, " 7") + &round_1 + &round_2 + "stop 4\n" + &decisions),
+    )
+}
+
+/// By round, decisions first, then by sender, then by receiver, and not by when they were sent.
+#[test]
+fn the_list_in_its_order() {
+    let decisions = [[1, 2, 0], [1, 3, 0], [2, 1, 0], [2, 3, 0]];
+    let round_1 = [[1, 4, 1], [2, 4, 1], [3, 4, 1]];
+    let round_2 = [[1, 3, 2], [1, 4, 2], [2, 3, 2], [2, 4, 2], [3, 4, 2]];
+    let left_over = [[9; 3]];
+    for highest_first in [false, true] {
+        let mut out = [[9; 3]; 13];
+        let answer = much_in_transit(highest_first).list_in_transit(out.as_flattened_mut());
+        assert_eq!(answer, Ok(12));
+        assert_eq!(out.to_vec(), [&decisions[..], &round_1, &round_2, &left_over].concat());
+    }
 }
 
 #[test]

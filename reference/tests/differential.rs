@@ -1,6 +1,7 @@
 //! The proved library against the reference. SEED sets the seed, which a failure names; `soak` goes on for longer.
 
 use reference::compare::{decided_bytes, everything};
+use reference::listed::OTHER;
 
 const SCHEDULES: u64 = 2;
 const RECORDS: u64 = 200_000;
@@ -20,6 +21,9 @@ fn proved_library_and_reference_agree() {
     assert!(missing.is_empty(), "closings not met: {missing:?}");
     let missing = met.totals.missing();
     assert!(missing.is_empty(), "totals not met: {missing:?}");
+    let [others, reached] = met.listed;
+    let missing = (reached.missing(16), others.missing(OTHER));
+    assert!(missing == (vec![], vec![]), "lists not met: {missing:?}, the second of other states");
 }
 
 #[test]

@@ -1,6 +1,8 @@
 //! The bench against a slow, plain model, where each message carries its own data.
 
+use reference::check::Broken;
 use reference::gen::{records, schedule, sizes, Rng};
+use reference::listed::{check_list, InTransit, Listed};
 use reference::refusal::number;
 use reference::{Bench, Cause, Closing, Ended, Record};
 use std::collections::{BTreeMap, BTreeSet};
@@ -230,16 +232,14 @@ fn same_process(model: &Model, bench: &Bench, number: u8) {
     assert_eq!(bench.decision(number).is_ok(), node.decided);
 }
 
-fn same_network(model: &Model, bench: &Bench) {
-    let mut out = vec![0; 3 * 16 * 15 * 17];
-    let count = bench.list_in_transit(&mut out).unwrap();
-    let listed: Vec<(u8, u8, u8)> = out[..3 * count].chunks(3).map(|m| (m[2], m[0], m[1])).collect();
-    let expected: Vec<(u8, u8, u8)> = model.network.keys().copied().collect();
-    assert_eq!(listed, expected);
+/// The list in transit is that of what was sent in the model and has not arrived.
+fn same_list(model: &Model, bench: &Bench, turn: usize, listed: &mut Listed) -> Result<(), Broken> {
+    let messages: Vec<InTransit> = model.network.keys().map(|&(r, a, b)| InTransit { r, a, b }).collect();
+    check_list(bench, &messages, turn, listed)
 }
 
-/// Answers, closings and states are the same at each record. Gives how often each closing was met.
-fn compare(n: u8, t: u8, seed: u64) -> Met {
+/// Answers, closings, lists in transit and states are the same at each record. Gives how often each closing was met.
+fn compare(n: u8, t: u8, seed: u64, listed: &mut Listed) -> Met {
     let mut met = Met::default();
     let mut model = Model::new(n, t);
     let mut bench = Bench::open(n, t).unwrap();
@@ -258,6 +258,7 @@ fn compare(n: u8, t: u8, seed: u64) -> Met {
         assert!(same.is_ok(), "{told}");
         assert!(closing == model.closing, "{told}: {closing:?}, by the model {:?}", model.closing);
         met[closing.number() as usize] += 1;
+        same_list(&model, &bench, i, listed).unwrap_or_else(|broken| panic!("{told}: {broken}"));
     }
     println!("n {n}, t {t}, seed {seed}");
     same_state(&model, &bench);
@@ -266,7 +267,6 @@ fn compare(n: u8, t: u8, seed: u64) -> Met {
 
 fn same_state(model: &Model, bench: &Bench) {
     (1..=model.n).for_each(|number| same_process(model, bench, number));
-    same_network(model, bench);
     assert_eq!(set(bench.crashed), model.crashed);
 }
 
@@ -289,27 +289,39 @@ fn compare_runs(n: u8, t: u8, seed: u64) -> [Met; 2] {
     }
     println!("n {n}, t {t}, seed {seed}, by runs");
     same_state(&model, &bench);
+    let ended = same_list(&model, &bench, 0, &mut Listed::default());
+    ended.unwrap_or_else(|broken| panic!("n {n}, t {t}, seed {seed}: {broken}"));
     met
+}
+
+/// Every kind of list that schedules of up to n processes can meet.
+fn every_list(n: u8, listed: &Listed) {
+    println!("lists: {}", listed.report());
+    assert!(listed.missing(n).is_empty(), "lists not met: {:?}", listed.missing(n));
 }
 
 #[test]
 fn bench_and_model_agree_on_every_size() {
+    let mut listed = Listed::default();
     for (n, t) in sizes() {
         for seed in 100..105 {
-            compare(n, t, seed);
+            compare(n, t, seed, &mut listed);
         }
     }
+    every_list(16, &listed);
 }
 
 #[test]
 fn bench_and_model_agree_on_small_sizes() {
     let mut seeds = Rng::new(2);
     let mut met = Met::default();
+    let mut listed = Listed::default();
     for (n, t) in sizes().filter(|&(n, _)| n <= 6) {
-        (0..200).for_each(|_| add(&mut met, compare(n, t, seeds.draw() >> 32)));
+        (0..200).for_each(|_| add(&mut met, compare(n, t, seeds.draw() >> 32, &mut listed)));
     }
     println!("closings of records: {met:?}");
     assert!(!met.contains(&0), "{met:?}");
+    every_list(6, &listed);
 }
 
 #[test]

@@ -2,7 +2,8 @@
 
 use reference::check::{check_closing, random_schedule, record_bound};
 use reference::explore::{explore, Found};
-use reference::gen::{random_state, sizes, well_formed, Rng};
+use reference::gen::{damage, everything_in_transit, random_state, sizes, thin_out, well_formed, Rng};
+use reference::listed::{check_list, held, Listed, OTHER};
 use reference::Bench;
 
 #[test]
@@ -48,6 +49,32 @@ fn closings_on_other_states() {
     assert!(!met.contains(&0), "{met:?}");
 }
 
+fn list(state: &Bench, turn: usize, listed: &mut Listed) {
+    let broken = |broken| panic!("n {}, t {}: {broken}", state.n, state.t);
+    check_list(state, &held(state), turn, listed).unwrap_or_else(broken);
+}
+
+/// The list in transit on states that mostly no schedule reaches, sound and damaged, and with everything in transit.
+#[test]
+fn lists_on_other_states() {
+    let mut rng = Rng::new(11);
+    let mut listed = Listed::default();
+    for (n, t) in sizes() {
+        for turn in 0..20 {
+            let mut state = random_state(&mut rng, n, t, turn % 2 == 0);
+            if turn % 3 == 0 {
+                thin_out(&mut rng, &mut state);
+            }
+            list(&state, turn, &mut listed);
+            damage(&mut rng, &mut state);
+            list(&state, turn, &mut listed);
+        }
+        (0..4).for_each(|turn| list(&everything_in_transit(n, t), turn, &mut listed));
+    }
+    println!("lists: {}", listed.report());
+    assert!(listed.missing(OTHER).is_empty(), "lists not met: {:?}", listed.missing(OTHER));
+}
+
 /// Of each n and t the states and the longest schedule; the bound is met exactly up to t 1.
 fn every_schedule(expected: &[(u8, u8, usize, usize)]) {
     let found: Vec<Found> = expected.iter().map(|&(n, t, ..)| found(n, t)).collect();
@@ -56,6 +83,7 @@ fn every_schedule(expected: &[(u8, u8, usize, usize)]) {
     }
     for (&(n, t, ..), found) in expected.iter().zip(&found) {
         every_closing(n, t, found);
+        every_list(n, t, found);
     }
 }
 
@@ -71,6 +99,12 @@ fn every_closing(n: u8, t: u8, found: &Found) {
     let [_, next_round, agreed, last_round] = found.closings;
     assert_eq!((next_round > 0, agreed > 0, last_round > 0), (t > 0, t > 1, true), "n {n}, t {t}");
     assert_eq!(found.both_grounds > 0, n == 1 || t > 0, "n {n}, t {t}");
+}
+
+/// Where all but one may crash, every kind of list that schedules of n processes can meet.
+fn every_list(n: u8, t: u8, found: &Found) {
+    let missing = found.listed.missing(n);
+    assert!(t + 1 < n || missing.is_empty(), "n {n}, t {t}: lists not met: {missing:?}");
 }
 
 #[test]

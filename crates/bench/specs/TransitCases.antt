@@ -1,5 +1,5 @@
--- A list in transit, computed by the checker from the definition. In any order but that of request C-13 its bytes are
--- others, and so they are where one of its messages is left out or stands twice.
+-- A list in transit, computed by the checker from the definition. With the three keys of request C-13 in any other
+-- order its bytes are others, and so they are with decisions last, or where a message is left out or stands twice.
 use mathlib.Core.Path.{_≡_, refl}
 use mathlib.Core.List.{[], _∷_}
 use Rattle.sets.specs.Lists.{joined}

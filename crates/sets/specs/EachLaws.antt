@@ -1,5 +1,5 @@
 -- Laws of `each`, which a loop over an array uses.
-use mathlib.Core.Path.{_≡_, refl, sym, _∙_}
+use mathlib.Core.Path.{_≡_, refl, sym, _∙_, ap₂}
 use mathlib.Core.List.{List, [], _∷_, _++_, append-assoc, append-nil}
 use mathlib.Core.Logic.{⊎-elim}
 use Prim.Native.Nat.{ℕ, zero, suc, _+_, _<_, _≤_}
@@ -43,3 +43,8 @@ module _ {ℓ} {A : Type ℓ} where
   each-getD n f d l e h =
       ext-getD d l (each n f) (e ∙ sym (length-each n f))
       (λ k b. h k (omega arith) ∙ sym (getD-each n f d k (omega arith)))
+
+  pub each-cong : (n : ℕ) (f g : ℕ → A) → ((k : ℕ) → k < n → f k ≡ g k) → each n f ≡ each n g
+  unfolding each
+  each-cong zero f g h = refl
+  each-cong (suc n) f g h = ap₂ (λ l x. l ++ (x ∷ [])) (each-cong n f g (λ k l. h k (omega arith))) (h n (omega arith))

@@ -1,12 +1,14 @@
--- Laws of `every`: what holds of each number below n, and one that fails where not every
--- one passes. By induction on n.
-use mathlib.Core.Path.{_≡_, refl}
+-- Laws of `every`: what holds of each number below n, and one that fails where not every one passes, by induction
+-- on n. From these, laws of `some`.
+use mathlib.Core.Path.{_≡_, refl, sym, _∙_, ap}
 use mathlib.Core.Logic.{⊎-elim}
-use mathlib.Core.Bool.{Bool, true, false}
+use mathlib.Core.Bool.{Bool, true, false, not}
 use Prim.Native.Nat.{ℕ, zero, suc, _<_}
 use native.Mathlib.Omega.{arith}
-use Rattle.sets.specs.TruthLaws.{and-l, and-r, and-mk, and-cases, clash, eq-or}
-use Rattle.sets.specs.Lists.{every}
+use Rattle.sets.specs.Truth.{_||_}
+use Rattle.sets.specs.TruthLaws.{and-l, and-r, and-mk, and-cases, clash, eq-or, not-on, not-off, off-by}
+use Rattle.sets.specs.TruthLaws.{both-ways, or-cases, or-mk-l, or-mk-r}
+use Rattle.sets.specs.Lists.{every, some}
 
 pub every-on : (n : ℕ) (p : ℕ → Bool) → every n p ≡ true → (k : ℕ) → k < n → p k ≡ true
 unfolding every
@@ -27,3 +29,49 @@ every-not zero p e = clash true refl e
 every-not (suc n) p e =
     ⊎-elim (λ u. (n, omega arith, u)) (λ u. let w = every-not n p u in (w .0, omega (arith, w .1), w .2))
     (and-cases (p n) (every n p) e)
+
+-- of one number more
+pub every-suc : (n : ℕ) (p : ℕ → Bool) → every n p ≡ true → p n ≡ true → every (suc n) p ≡ true
+unfolding every
+every-suc n p e h = and-mk (p n) (every n p) h e
+
+-- one that fails
+pub every-off : (n : ℕ) (p : ℕ → Bool) (k : ℕ) → k < n → p k ≡ false → every n p ≡ false
+every-off n p k h e = off-by (every n p) (λ t. clash (p k) (every-on n p t k h) e)
+
+-- some number passes: there is one, and one is enough
+pub some-on : (n : ℕ) (p : ℕ → Bool) → some n p ≡ true → (k : ℕ) × (k < n) × (p k ≡ true)
+unfolding some
+some-on n p e =
+    let w = every-not n (λ k. not (p k)) (not-on _ e) in (w .0, w .1, not-off (p (w .0)) (w .2))
+
+pub some-mk : (n : ℕ) (p : ℕ → Bool) (k : ℕ) → k < n → p k ≡ true → some n p ≡ true
+unfolding some
+some-mk n p k h e = ap not (every-off n (λ k. not (p k)) k h (ap not e))
+
+-- what passes one test below n passes another below m
+pub some-sub : (n m : ℕ) (p q : ℕ → Bool)
+    → ((k : ℕ) → k < n → p k ≡ true → (j : ℕ) × (j < m) × (q j ≡ true)) → some n p ≡ true → some m q ≡ true
+some-sub n m p q h e =
+    let w = some-on n p e in let v = h (w .0) (w .1) (w .2) in some-mk m q (v .0) (v .1) (v .2)
+
+pub some-cong : (n : ℕ) (p q : ℕ → Bool) → ((k : ℕ) → k < n → p k ≡ q k) → some n p ≡ some n q
+some-cong n p q h =
+    both-ways (some n p) (some n q)
+    (some-sub n n p q (λ k l e. (k, l, sym (h k l) ∙ e)))
+    (some-sub n n q p (λ k l e. (k, l, h k l ∙ e)))
+
+pub some-none : (n : ℕ) (p : ℕ → Bool) → ((k : ℕ) → k < n → p k ≡ false) → some n p ≡ false
+some-none n p h = off-by (some n p) (λ e. let w = some-on n p e in clash (p (w .0)) (w .2) (h (w .0) (w .1)))
+
+-- of one number more
+pub some-suc : (n : ℕ) (p : ℕ → Bool) → some (suc n) p ≡ (p n || some n p)
+some-suc n p =
+    both-ways (some (suc n) p) (p n || some n p)
+    (λ e.
+    let w = some-on (suc n) p e in
+    ⊎-elim (λ u. or-mk-l (p n) (some n p) (rw u at (w .2)))
+    (λ u. or-mk-r (p n) (some n p) (some-mk n p (w .0) (omega (arith, w .1)) (w .2))) (eq-or (w .0) n))
+    (λ e. ⊎-elim (λ u. some-mk (suc n) p n (omega arith) u)
+    (λ u. let w = some-on n p u in some-mk (suc n) p (w .0) (omega (arith, w .1)) (w .2))
+    (or-cases (p n) (some n p) e))

@@ -15,7 +15,7 @@ use lib.Dec.{lit<}
 use lib.Pow.{pow-pos, pow-mono, pow-lt, pow-add, shr-shr, ones-split, ones-lt, high, shl-exact}
 use Rattle.sets.specs.Truth.{_&&_, _||_, same, below, bit}
 use Rattle.sets.specs.TruthLaws.{Is, on, off, is, off-by, both-ways, and-on-l, and-on-r, and-off-l}
-use Rattle.sets.specs.TruthLaws.{and-off-r, same-mk, same-on, below-mk, below-off, le-or, eq-or}
+use Rattle.sets.specs.TruthLaws.{and-off-r, not-on, not-off, same-mk, same-on, below-mk, below-off, le-or, eq-or}
 use Rattle.sets.specs.Lists.{count}
 use Rattle.sets.specs.CountLaws.{count-first, count-cong, count-mono}
 use Rattle.sets.specs.Set.{has, insertOf, removeOf, unionOf, intersectionOf, differenceOf, allOf, sizeOf}
@@ -188,6 +188,16 @@ pub split-differ : (n a b : ℕ) → a < 2 ^ n → b < 2 ^ n → (a ≡ b → �
 split-differ n a b ha hb d =
     ⊎-elim (λ h. absurd (d (set-ext n a b ha hb h))) (λ w. w) (agree-or n (has a) (has b))
 
+-- so a set that is not empty has a member: it lies below some power of two
+pow-above : (m : ℕ) → m < 2 ^ m
+pow-above zero = lit< tt
+pow-above (suc m) = omega (arith, pow-above m, pow-suc 2 m)
+
+pub member-of : (m : ℕ) → (m ≡ 0 → ⊥) → (i : ℕ) × (has m i ≡ true)
+member-of m d =
+    let w = split-differ m m 0 (pow-above m) (pow-pos m) d in
+    (w .0, not-off _ (off-by _ (λ e. w .2 (not-on _ e ∙ sym (has-empty (w .0))))))
+
 -- ---- bounds
 pub union-lt : (n a b : ℕ) → a < 2 ^ n → b < 2 ^ n → unionOf a b < 2 ^ n
 unfolding unionOf
@@ -196,6 +206,11 @@ union-lt n a b ha hb = or-lt n a b ha hb
 pub intersection-lt : (n a b : ℕ) → a < 2 ^ n → intersectionOf a b < 2 ^ n
 unfolding intersectionOf
 intersection-lt n a b ha = omega (arith, and-le-l a b)
+
+-- a set cut at n
+pub cut-lt : (n a : ℕ) → intersectionOf a (allOf n) < 2 ^ n
+unfolding intersectionOf
+cut-lt n a = omega (arith, and-le-r a (allOf n), all-lt n)
 
 pub difference-lt : (n a b : ℕ) → a < 2 ^ n → differenceOf a b < 2 ^ n
 unfolding differenceOf
@@ -212,7 +227,7 @@ remove-lt n m i hm = difference-lt n m (2 ^ i) hm
 -- a set with no member past n is below 2 ^ n: it is its own part below n
 pub members-low : (n m : ℕ) → m < 2 ^ 16 → ((i : ℕ) → i < 16 → has m i ≡ true → i < n) → m < 2 ^ n
 unfolding intersectionOf
-members-low n m hm h = rw e (omega (arith, and-le-r m (allOf n), all-lt n))
+members-low n m hm h = rw e (cut-lt n m)
   where
     part : (i : ℕ) → Is (has m i) → i < 16 → has m i ≡ (has m i && below i n)
     part i (on t) l = sym (and-on-r (has m i) (below i n) (below-mk i n (h i l t)))

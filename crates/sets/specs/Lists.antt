@@ -1,5 +1,5 @@
--- Over the numbers below n, and over lists: each, joined, every, how many, their sum.
-use mathlib.Core.Bool.{Bool, true}
+-- Over the numbers below n, and over lists: each, joined, every, some, how many, their sum.
+use mathlib.Core.Bool.{Bool, true, not}
 use mathlib.Core.List.{List, [], _∷_, _++_}
 use Prim.Native.Nat.{ℕ, zero, suc, _+_}
 use Rattle.sets.specs.Truth.{_&&_, bit}
@@ -18,6 +18,10 @@ joined (suc n) f = joined n f ++ f n
 unfoldable pub every : ℕ → (ℕ → Bool) → Bool
 every zero p = true
 every (suc n) p = p n && every n p
+
+-- some number below n does: they do not all fail it
+unfoldable pub some : ℕ → (ℕ → Bool) → Bool
+some n p = not (every n (λ k. not (p k)))
 
 -- every element of a list does
 unfoldable pub everyIn : {A : Type 0} → (A → Bool) → List A → Bool

@@ -1,0 +1,124 @@
+-- The school calendar (request C-14): which sites take part in a week, and how their processes are numbered.
+-- The request says kitchen for site and terminal for process. Sites, and processes, are numbered from 1.
+use mathlib.Core.Bool.{Bool, not}
+use mathlib.Core.List.{List, [], _∷_}
+use Prim.Native.Nat.{ℕ, _+_, _-_, _*_, _/_, _%_}
+use lib.ListN.{length, getD, replicate}
+use Rattle.sets.specs.Lists.{each, joined, every, some, count}
+use Rattle.sets.specs.Truth.{_&&_, same, below, oneTo, choose, check}
+use Rattle.calendar.specs.declared.Period.{Period}
+use Rattle.calendar.specs.declared.Numbering.{Numbering}
+use Rattle.calendar.specs.declared.WeekAnswer.{WeekAnswer}
+
+-- ---- records: 8 bytes, no header: site, kind, first day, last day, two zero bytes
+
+-- two bytes, the low one first
+unfoldable pub pairOf : ℕ → ℕ → ℕ
+pairOf low high = low + high * 256
+
+-- how many whole records there are
+unfoldable pub recordsIn : List ℕ → ℕ
+recordsIn calendar = length calendar / 8
+
+-- record j, from 0; `rest` is its last two bytes
+unfoldable pub recordAt : List ℕ → ℕ → Period
+recordAt calendar j =
+    record {
+      site = getD calendar (8 * j) 0;
+      kind = getD calendar (8 * j + 1) 0;
+      first = pairOf (getD calendar (8 * j + 2) 0) (getD calendar (8 * j + 3) 0);
+      last = pairOf (getD calendar (8 * j + 4) 0) (getD calendar (8 * j + 5) 0);
+      rest = pairOf (getD calendar (8 * j + 6) 0) (getD calendar (8 * j + 7) 0);
+    }
+
+-- a site 1 to 16, a kind 1 or 2, first day not after last, last bytes zero
+unfoldable pub wellFormed : Period → Bool
+wellFormed p = oneTo 16 (p .site) && (oneTo 2 (p .kind) && (not (below (p .last) (p .first)) && same (p .rest) 0))
+
+-- ---- days
+
+abbrev pub term : ℕ
+term = 1
+
+abbrev pub closed : ℕ
+closed = 2
+
+-- a record of its own: of this kind, for this site
+unfoldable pub ownOf : ℕ → ℕ → Period → Bool
+ownOf kind site p = same (p .kind) kind && same (p .site) site
+
+-- the day lies in the record: first and last day both count
+unfoldable pub lies : ℕ → Period → Bool
+lies day p = not (below day (p .first)) && not (below (p .last) day)
+
+-- the day lies in some record of the kind and site among the first k
+unfoldable pub liesInTo : List ℕ → ℕ → ℕ → ℕ → ℕ → Bool
+liesInTo calendar k kind site day = some k (λ j. ownOf kind site (recordAt calendar j) && lies day (recordAt calendar j))
+
+-- in some record of the calendar
+abbrev pub liesIn : List ℕ → ℕ → ℕ → ℕ → Bool
+liesIn calendar kind site day = liesInTo calendar (recordsIn calendar) kind site day
+
+-- open on a day: in a term record of its own and in no closed record of its own
+unfoldable pub openOn : List ℕ → ℕ → ℕ → Bool
+openOn calendar site day = liesIn calendar term site day && not (liesIn calendar closed site day)
+
+-- day i of a week, where Monday is 0: day 0 is a Monday, and week w is days 7 w to 7 w + 6. No bound of 16 bits.
+abbrev pub dayOf : ℕ → ℕ → ℕ
+dayOf week i = 7 * week + i
+
+-- takes part in a week: open on at least one of Monday to Friday
+unfoldable pub takesPart : List ℕ → ℕ → ℕ → Bool
+takesPart calendar week site = some 5 (λ i. openOn calendar site (dayOf week i))
+
+-- ---- the numbering of those sites of 1 to 16 that take part
+
+-- they, in rising number
+unfoldable pub sitesOf : (ℕ → Bool) → List ℕ
+sitesOf takes = joined 16 (λ i. choose (takes (i + 1)) ((i + 1) ∷ []) [])
+
+-- how many of the sites 1 to s take part
+unfoldable pub howMany : (ℕ → Bool) → ℕ → ℕ
+howMany takes s = count s (λ i. takes (i + 1))
+
+-- the process of a site: it is the how manieth of them; 0 for none
+unfoldable pub processOf : (ℕ → Bool) → ℕ → ℕ
+processOf takes site = choose (takes site) (howMany takes site) 0
+
+-- the site of a process; 0 for none
+unfoldable pub siteOf : (ℕ → Bool) → ℕ → ℕ
+siteOf takes process = getD (sitesOf takes) (process - 1) 0
+
+-- n, and the numbering both ways
+unfoldable pub numberingOf : (ℕ → Bool) → Numbering
+numberingOf takes =
+    record {
+      n = howMany takes 16;
+      «process_of» = each 16 (λ i. processOf takes (i + 1));
+      «site_of» = each 16 (λ i. siteOf takes (i + 1));
+    }
+
+unfoldable pub noNumbering : Numbering
+noNumbering = record { n = 0; «process_of» = replicate 16 0; «site_of» = replicate 16 0 }
+
+-- ---- the call
+
+-- 13: a partial record, or any record that is not well formed; then 14: nobody takes part
+unfoldable pub refusalOf : List ℕ → ℕ → ℕ
+refusalOf calendar week =
+    check (same (length calendar % 8) 0) 13
+    (check (every (recordsIn calendar) (λ j. wellFormed (recordAt calendar j))) 13
+    (check (some 16 (λ i. takesPart calendar week (i + 1))) 14 0))
+
+-- all of the numbering is 0
+unfoldable pub refusedBy : ℕ → WeekAnswer
+refusedBy number = record { answer = number; numbering = noNumbering }
+
+unfoldable pub answeredBy : Numbering → WeekAnswer
+answeredBy numbering = record { answer = 0; numbering = numbering }
+
+unfoldable pub weekOf : List ℕ → ℕ → WeekAnswer
+weekOf calendar week =
+    choose (same (refusalOf calendar week) 0)
+    (answeredBy (numberingOf (takesPart calendar week)))
+    (refusedBy (refusalOf calendar week))

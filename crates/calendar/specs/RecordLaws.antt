@@ -1,0 +1,269 @@
+-- The answer depends on which records a calendar has, and on nothing else: not on their order, nor on how often one
+-- stands there. A record of another site does not move a site, and one that has none of a week's weekdays moves
+-- nothing in that week. All by one reading: a day lies in some record just where there is such a record.
+use mathlib.Core.Path.{_≡_, refl, sym, _∙_, ap, ap₂, fun-ext}
+use mathlib.Core.Bool.{Bool, true, false, not}
+use mathlib.Core.List.{List, [], _∷_, _++_}
+use mathlib.Core.Logic.{_≢_, _⊎_, inl, inr, ⊎-elim}
+use Prim.Native.Nat.{ℕ, suc, _+_, _-_, _*_, _/_, _%_, _≤_, _<_}
+use native.Mathlib.Omega.{arith}
+use lib.ListN.{length, getD, length-append, List·getD-append}
+use lib.Seq.{getD-append-add}
+use Rattle.sets.specs.EveryLaws.{every-on, every-mk, some-on, some-mk, some-cong, some-none}
+use Rattle.sets.specs.Lists.{every, some}
+use Rattle.sets.specs.Truth.{_&&_, same, below, choose, check}
+use Rattle.sets.specs.TruthLaws.{both-ways, off-by, and-l, and-r, and-mk, and-off-l, same-on, same-mk}
+use Rattle.sets.specs.TruthLaws.{below-not, not-on, le-or}
+use Rattle.calendar.specs.declared.Period.{Period}
+use Rattle.calendar.specs.Calendar.{pairOf, recordsIn, recordAt, wellFormed, ownOf, lies, liesInTo, liesIn}
+use Rattle.calendar.specs.Calendar.{openOn, dayOf, takesPart, refusalOf, refusedBy, weekOf}
+use Rattle.calendar.specs.RefusalLaws.{nobody-14}
+
+-- p is one of the calendar's records
+pub record In (p : Period) (calendar : List ℕ) : Type 0 where
+  pub place : ℕ
+  pub inside : place < recordsIn calendar
+  pub found : recordAt calendar place ≡ p
+
+-- ---- records of two parts, one after the other; the first has whole records
+abbrev pub Whole : List ℕ → Type 0
+Whole x = length x % 8 ≡ 0
+
+module _ (x y : List ℕ) (w : Whole x) where
+  records-append : recordsIn (x ++ y) ≡ recordsIn x + recordsIn y
+  unfolding recordsIn
+  records-append = omega (arith, length-append x y)
+
+  byte-left : (k : ℕ) → k < length x → getD (x ++ y) k 0 ≡ getD x k 0
+  byte-left k l = List·getD-append x y 0 k l
+
+  byte-right : (k : ℕ) → getD (x ++ y) (length x + k) 0 ≡ getD y k 0
+  byte-right k = getD-append-add x y k 0
+
+  record-left : (j : ℕ) → j < recordsIn x → recordAt (x ++ y) j ≡ recordAt x j
+  unfolding recordsIn recordAt
+  record-left j l =
+      rw (
+        byte-left (8 * j) (omega arith),
+        byte-left (8 * j + 1) (omega arith),
+        byte-left (8 * j + 2) (omega arith),
+        byte-left (8 * j + 3) (omega arith),
+        byte-left (8 * j + 4) (omega arith),
+        byte-left (8 * j + 5) (omega arith),
+        byte-left (8 * j + 6) (omega arith),
+        byte-left (8 * j + 7) (omega arith),
+      )
+
+  record-right : (j : ℕ) → recordAt (x ++ y) (recordsIn x + j) ≡ recordAt y j
+  unfolding recordsIn recordAt
+  record-right j = rw (first, at 1, at 2, at 3, at 4, at 5, at 6, at 7)
+    where
+      first : getD (x ++ y) (8 * (length x / 8 + j)) 0 ≡ getD y (8 * j) 0
+      first =
+          let e : 8 * (length x / 8 + j) ≡ length x + 8 * j = omega arith in
+          ap (λ (i : ℕ). getD (x ++ y) i 0) e ∙ byte-right (8 * j)
+
+      at : (k : ℕ) → getD (x ++ y) (8 * (length x / 8 + j) + k) 0 ≡ getD y (8 * j + k) 0
+      at k =
+          let e : 8 * (length x / 8 + j) + k ≡ length x + (8 * j + k) = omega arith in
+          ap (λ (i : ℕ). getD (x ++ y) i 0) e ∙ byte-right (8 * j + k)
+
+  pub in-left : (p : Period) → In p x → In p (x ++ y)
+  in-left p h = record {
+    place = h .place;
+    inside = omega (arith, h .inside, records-append);
+    found = record-left (h .place) (h .inside) ∙ h .found;
+  }
+
+  pub in-right : (p : Period) → In p y → In p (x ++ y)
+  in-right p h = record {
+    place = recordsIn x + h .place;
+    inside = omega (arith, h .inside, records-append);
+    found = record-right (h .place) ∙ h .found;
+  }
+
+  pub in-either : (p : Period) → In p (x ++ y) → In p x ⊎ In p y
+  in-either p h = go (le-or (recordsIn x) (h .place))
+    where
+      go : (recordsIn x ≤ h .place) ⊎ (h .place < recordsIn x) → In p x ⊎ In p y
+      go (inr l) =
+          inl (record { place = h .place; inside = l; found = sym (record-left (h .place) l) ∙ h .found })
+      go (inl l) =
+          let e : recordsIn x + (h .place - recordsIn x) ≡ h .place = omega arith in
+          inr (record {
+            place = h .place - recordsIn x;
+            inside = omega (arith, h .inside, records-append);
+            found = sym (record-right (h .place - recordsIn x)) ∙ ap (recordAt (x ++ y)) e ∙ h .found;
+          })
+
+-- ---- the answer by the calendar's records
+module _ (calendar : List ℕ) where
+  -- every record is well formed, and a day lies in some record of a kind and site
+  pub formed-on : every (recordsIn calendar) (λ j. wellFormed (recordAt calendar j)) ≡ true
+      → (p : Period) → In p calendar → wellFormed p ≡ true
+  formed-on e p h = ap wellFormed (sym (h .found)) ∙ every-on _ _ e (h .place) (h .inside)
+
+  pub formed-mk : ((p : Period) → In p calendar → wellFormed p ≡ true)
+      → every (recordsIn calendar) (λ j. wellFormed (recordAt calendar j)) ≡ true
+  formed-mk f = every-mk _ _ (λ j l. f _ (record { place = j; inside = l; found = refl }))
+
+  pub lies-on : (kind site day : ℕ) → liesIn calendar kind site day ≡ true
+      → (p : Period) × In p calendar × (ownOf kind site p ≡ true) × (lies day p ≡ true)
+  unfolding liesInTo
+  lies-on kind site day e =
+      let w = some-on _ _ e in
+      (recordAt calendar (w .0), record { place = w .0; inside = w .1; found = refl }, and-l _ _ (w .2), and-r _ _ (w .2))
+
+  pub lies-mk : (kind site day : ℕ) (p : Period) → In p calendar → ownOf kind site p ≡ true → lies day p ≡ true
+      → liesIn calendar kind site day ≡ true
+  unfolding liesInTo
+  lies-mk kind site day p h o l =
+      some-mk _ _ (h .place) (h .inside)
+      (and-mk _ _ (ap (ownOf kind site) (h .found) ∙ o) (ap (lies day) (h .found) ∙ l))
+
+-- whether a site takes part, by the days that lie in its records
+pub part-cong : (a b : List ℕ) (week site : ℕ)
+    → ((kind i : ℕ) → i < 5 → liesIn a kind site (dayOf week i) ≡ liesIn b kind site (dayOf week i))
+    → takesPart a week site ≡ takesPart b week site
+unfolding takesPart openOn
+part-cong a b week site h = some-cong 5 _ _ (λ i l. ap₂ (λ s c. s && not c) (h 1 i l) (h 2 i l))
+
+-- the answer, by its three parts
+pub week-cong : (a b : List ℕ) (week : ℕ) → same (length a % 8) 0 ≡ same (length b % 8) 0
+    → every (recordsIn a) (λ j. wellFormed (recordAt a j)) ≡ every (recordsIn b) (λ j. wellFormed (recordAt b j))
+    → ((site : ℕ) → takesPart a week site ≡ takesPart b week site) → weekOf a week ≡ weekOf b week
+unfolding weekOf refusalOf
+week-cong a b week w f t =
+    let e : takesPart a week ≡ takesPart b week = fun-ext t in
+    rw (w, f, e)
+
+-- ---- the laws
+
+-- calendars with the same records have one answer
+pub same-records : (a b : List ℕ) (week : ℕ) → length a % 8 ≡ length b % 8
+    → ((p : Period) → In p a → In p b) → ((p : Period) → In p b → In p a) → weekOf a week ≡ weekOf b week
+same-records a b week e f g =
+    week-cong a b week (ap (λ (k : ℕ). same k 0) e)
+    (both-ways _ _ (λ h. formed-mk b (λ p i. formed-on a h p (g p i))) (λ h. formed-mk a (λ p i. formed-on b h p (f p i))))
+    (λ site. part-cong a b week site (λ kind i l.
+    both-ways _ _ (moved a b f kind site (dayOf week i)) (moved b a g kind site (dayOf week i))))
+  where
+    moved : (x y : List ℕ) → ((p : Period) → In p x → In p y) → (kind site day : ℕ)
+        → liesIn x kind site day ≡ true → liesIn y kind site day ≡ true
+    moved x y f kind site day h =
+        let w = lies-on x kind site day h in lies-mk y kind site day (w .0) (f (w .0) (w .1)) (w .2) (w .3)
+
+-- their order changes nothing: two neighbouring parts change places
+pub order-free : (x r s y : List ℕ) (week : ℕ) → Whole x → Whole r → Whole s
+    → weekOf (x ++ (r ++ (s ++ y))) week ≡ weekOf (x ++ (s ++ (r ++ y))) week
+order-free x r s y week wx wr ws =
+    same-records (x ++ (r ++ (s ++ y))) (x ++ (s ++ (r ++ y))) week
+    (omega (
+      arith,
+      length-append x (r ++ (s ++ y)),
+      length-append r (s ++ y),
+      length-append s y,
+      length-append x (s ++ (r ++ y)),
+      length-append s (r ++ y),
+      length-append r y,
+    ))
+    (turn r s wr ws) (turn s r ws wr)
+  where
+    turn : (r s : List ℕ) → Whole r → Whole s → (p : Period) → In p (x ++ (r ++ (s ++ y))) → In p (x ++ (s ++ (r ++ y)))
+    turn r s wr ws p h =
+        ⊎-elim (in-left x (s ++ (r ++ y)) wx p)
+        (λ i. in-right x (s ++ (r ++ y)) wx p (⊎-elim (λ k. in-right s (r ++ y) ws p (in-left r y wr p k))
+        (λ k. ⊎-elim (in-left s (r ++ y) ws p) (λ q. in-right s (r ++ y) ws p (in-right r y wr p q))
+        (in-either s y ws p k)) (in-either r (s ++ y) wr p i)))
+        (in-either x (r ++ (s ++ y)) wx p h)
+
+-- records that stand there already change nothing
+pub twice-once : (x r : List ℕ) (week : ℕ) → Whole x → Whole r → ((p : Period) → In p r → In p x)
+    → weekOf (r ++ x) week ≡ weekOf x week
+twice-once x r week wx wr f =
+    same-records (r ++ x) x week (omega (arith, length-append r x))
+    (λ p h. ⊎-elim (f p) (λ i. i) (in-either r x wr p h)) (in-right r x wr)
+
+-- ---- what a record moves
+module _ (x r y : List ℕ) (week : ℕ) (wx : Whole x) (wr : Whole r) where
+  in-more : (p : Period) → In p (x ++ y) → In p (x ++ (r ++ y))
+  in-more p h =
+      ⊎-elim (in-left x (r ++ y) wx p) (λ i. in-right x (r ++ y) wx p (in-right r y wr p i)) (in-either x y wx p h)
+
+  in-less : (p : Period) → In p (x ++ (r ++ y)) → In p r ⊎ In p (x ++ y)
+  in-less p h =
+      ⊎-elim (λ i. inr (in-left x y wx p i))
+      (λ i. ⊎-elim inl (λ k. inr (in-right x y wx p k)) (in-either r y wr p i)) (in-either x (r ++ y) wx p h)
+
+  -- records of r in which no weekday of the week lies that counts for the site
+  unmoved : (site : ℕ)
+      → ((p : Period) → In p r → (kind i : ℕ) → i < 5 → ownOf kind site p ≡ true → lies (dayOf week i) p ≡ true → ⊥)
+      → takesPart (x ++ (r ++ y)) week site ≡ takesPart (x ++ y) week site
+  unmoved site f =
+      part-cong (x ++ (r ++ y)) (x ++ y) week site (λ kind i l.
+      both-ways _ _
+      (λ e.
+      let w = lies-on (x ++ (r ++ y)) kind site (dayOf week i) e in
+      ⊎-elim (λ k. absurd (f (w .0) k kind i l (w .2) (w .3)))
+      (λ k. lies-mk (x ++ y) kind site (dayOf week i) (w .0) k (w .2) (w .3)) (in-less (w .0) (w .1)))
+      (λ e.
+      let w = lies-on (x ++ y) kind site (dayOf week i) e in
+      lies-mk (x ++ (r ++ y)) kind site (dayOf week i) (w .0) (in-more (w .0) (w .1)) (w .2) (w .3)))
+
+  -- records of other sites, closed or term, do not change whether a site takes part
+  pub other-site : (site : ℕ) → ((p : Period) → In p r → p .site ≢ site)
+      → takesPart (x ++ (r ++ y)) week site ≡ takesPart (x ++ y) week site
+  unfolding ownOf
+  other-site site f = unmoved site (λ p k kind i l o e. f p k (same-on (p .site) site (and-r _ _ o)))
+
+  -- well-formed records in which none of the week's Monday to Friday lies change nothing at all
+  pub no-weekday : ((p : Period) → In p r → wellFormed p ≡ true)
+      → ((p : Period) → In p r → (i : ℕ) → i < 5 → lies (dayOf week i) p ≡ true → ⊥)
+      → weekOf (x ++ (r ++ y)) week ≡ weekOf (x ++ y) week
+  no-weekday f g =
+      week-cong (x ++ (r ++ y)) (x ++ y) week
+      (ap (λ (k : ℕ). same k 0)
+      (omega (arith, length-append x (r ++ y), length-append r y, length-append x y)))
+      (both-ways _ _ (λ e. formed-mk (x ++ y) (λ p h. formed-on (x ++ (r ++ y)) e p (in-more p h)))
+      (λ e. formed-mk (x ++ (r ++ y)) (λ p h. ⊎-elim (f p) (formed-on (x ++ y) e p) (in-less p h))))
+      (λ site. unmoved site (λ p k kind i l o. g p k i l))
+
+  -- such as those over a weekend alone, of any week v
+  pub weekend-only : ((p : Period) → In p r → wellFormed p ≡ true)
+      → ((p : Period) → In p r → (v : ℕ) × (dayOf v 5 ≤ p .first) × (p .last ≤ dayOf v 6))
+      → weekOf (x ++ (r ++ y)) week ≡ weekOf (x ++ y) week
+  unfolding lies
+  weekend-only f g =
+      no-weekday f (λ p k i l e.
+      let w = g p k in
+      omega (
+        arith,
+        w .1,
+        w .2,
+        below-not (dayOf week i) (p .first) (not-on _ (and-l _ _ e)),
+        below-not (p .last) (dayOf week i) (not-on _ (and-r _ _ e)),
+      ))
+
+-- ---- weeks past 9,362: day 65,535 is the Tuesday of that week
+module _ (calendar : List ℕ) (bytes : (k : ℕ) → getD calendar k 0 < 256) (week : ℕ) (late : 9362 < week) where
+  last-small : (p : Period) → In p calendar → p .last ≤ 65535
+  unfolding recordAt pairOf
+  last-small p h =
+      let e : p .last ≡ pairOf (getD calendar (8 * h .place + 4) 0) (getD calendar (8 * h .place + 5) 0) =
+      ap (λ (q : Period). q .last) (sym (h .found)) in
+      omega (arith, bytes (8 * h .place + 4), bytes (8 * h .place + 5))
+
+  last-there : (p : Period) (i : ℕ) → lies (dayOf week i) p ≡ true → dayOf week i ≤ p .last
+  unfolding lies
+  last-there p i e = below-not (p .last) (dayOf week i) (not-on _ (and-r _ _ e))
+
+  pub past-part : (site : ℕ) → takesPart calendar week site ≡ false
+  unfolding takesPart openOn
+  past-part site = some-none 5 _ (λ i l. and-off-l _ _ (off-by _ (λ e.
+      let w = lies-on calendar 1 site (dayOf week i) e in
+      omega (arith, last-small (w .0) (w .1), last-there (w .0) i (w .3)))))
+
+  -- nobody takes part, so 14 if it is not 13
+  pub past-weeks : Whole calendar → every (recordsIn calendar) (λ j. wellFormed (recordAt calendar j)) ≡ true
+      → weekOf calendar week ≡ refusedBy 14
+  past-weeks w f = nobody-14 calendar week (same-mk _ 0 w) f (some-none 16 _ (λ i l. past-part (i + 1)))

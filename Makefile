@@ -17,8 +17,8 @@ test:
 edits:
 	@scripts/edits
 
-# The proved library for Rust and C, target/staticlib/libgerzulan.a: the exported calls of the two crates in one archive.
-EXPORTS := export_bench export_aggregates
+# The proved library for Rust and C, target/staticlib/libgerzulan.a: the exported calls of the three crates in one archive.
+EXPORTS := export_bench export_aggregates export_calendar
 library:
 	@for crate in $(EXPORTS); do scripts/proved staticlib $$crate || exit 1; done
 	@cd target/staticlib && rm -f libgerzulan.a && for crate in $(EXPORTS); do ar x lib$$crate.a; done && \

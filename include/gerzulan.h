@@ -3,7 +3,7 @@
  * The host holds a bench and lends it. No call asks anything of the values: a damaged bench is refused, and `decided` may be any byte. But
  * each pointer is to initialised memory of its type (a bench of all zero will do for `gerzulan_bench_open`), a length is that of the slice
  * before it, and what is lent to be written overlaps nothing else that is given. A refusal leaves all that is lent untouched, but for the
- * tally, a step's closing and a run's progress. Refusals have the numbers of document 01, 1 to 12. */
+ * tally, a step's closing and a run's progress. Refusals have the numbers of document 01, 1 to 12, and of the requests, 13 and 14. */
 #ifndef GERZULAN_H
 #define GERZULAN_H
 
@@ -97,6 +97,19 @@ uint32_t gerzulan_lead(uint8_t n, const uint32_t *entries, size_t length, uint16
                        uint32_t *value);
 uint32_t gerzulan_change(uint8_t n, const uint32_t *entries, size_t length, uint16_t marks, uint8_t process,
                          uint32_t standing, int64_t *difference);
+
+/* The sites that take part in a week, numbered as processes 1 to n in rising number of site, both ways; 0 for none. */
+struct gerzulan_week {
+    uint8_t n;
+    uint8_t process_of[16]; /* of site s at s - 1 */
+    uint8_t site_of[16];    /* of process p at p - 1 */
+};
+
+/* The sites that take part in a week, by a calendar of 8-byte records: site, kind (1 term, 2 closed), first and last day, each 16 bits, low
+ * byte first, and two zero bytes. Day 0 is Monday 1 January 2024, week w begins on day 7w, and a site takes part that is open on one of
+ * Monday to Friday: in a term record of its own and in no closed one. 0, or a refusal with *out as it was: 13, some record is at fault or
+ * the last one partial; 14, nobody takes part. */
+uint32_t gerzulan_calendar_week(const uint8_t *calendar, size_t length, uint16_t week, struct gerzulan_week *out);
 
 #ifdef __cplusplus
 }

@@ -23,6 +23,7 @@ pub struct Period {
 }
 
 // How many sites take part, the process of each site and the site of each process; 0 for none.
+#[repr(C)]
 pub struct Numbering {
     pub n: u8,
     pub process_of: [u8; 16],

@@ -1,4 +1,3 @@
 mod Reading
 mod RunIn
-mod Walk
 pub mod Lent

@@ -47,7 +47,7 @@ use Rattle.bench.specs.Calls.{showOf, shownIn}
 use Rattle.bench.proofs.Bench as bench
 use Rattle.bench.proofs.Bench.Laws as bench-laws
 use Rattle.answers.specs.Numbers.{shownNumber}
-use Rattle.export_bench.proofs.Walk.{by-walk}
+use Rattle.walks.specs.Walk.{by-walk}
 use Rattle.export_bench.proofs.Lent.{benchVal, benchLast}
 use Rattle.export_bench.proofs.Reading.{benchShared, reads}
 use Rattle.answers.proofs.show_by as work

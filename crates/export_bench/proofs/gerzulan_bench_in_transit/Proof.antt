@@ -46,7 +46,7 @@ use Rattle.bench.specs.TransitList.{listOf, listedIn}
 use Rattle.bench.proofs.Bench as bench
 use Rattle.bench.proofs.Bench.Laws as bench-laws
 use Rattle.answers.specs.Numbers.{listedNumber}
-use Rattle.export_bench.proofs.Walk.{by-walk}
+use Rattle.walks.specs.Walk.{by-walk}
 use Rattle.export_bench.proofs.Lent.{benchVal, benchLast}
 use Rattle.export_bench.proofs.Reading.{benchShared, reads}
 use Rattle.answers.proofs.list_by as work

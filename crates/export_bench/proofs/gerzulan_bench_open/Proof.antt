@@ -45,7 +45,7 @@ use Rattle.bench.proofs.Bench as bench
 use Rattle.bench.proofs.Bench.Laws as bench-laws
 use Rattle.answers.specs.Numbers.{hostOpenedOf}
 use Rattle.answers.specs.declared.HostOpened.{HostOpened}
-use Rattle.export_bench.proofs.Walk.{by-walk}
+use Rattle.walks.specs.Walk.{by-walk}
 use Rattle.export_bench.proofs.Lent.{benchVal, benchSeen, benchLent}
 use Rattle.answers.proofs.HostOpened as result
 use Rattle.answers.proofs.HostOpened.Laws as result-laws

@@ -58,7 +58,7 @@ use Rattle.answers.specs.Numbers.{reachedOf, hostRanOf}
 use Rattle.answers.specs.ReachedLaws.{run-number, run-progress}
 use Rattle.answers.specs.declared.Reached.{Reached}
 use Rattle.answers.specs.declared.HostRan.{HostRan}
-use Rattle.export_bench.proofs.Walk.{by-walk}
+use Rattle.walks.specs.Walk.{by-walk}
 use Rattle.export_bench.proofs.Lent.{benchRef, benchLast}
 use Rattle.export_bench.proofs.RunIn.{Run, to-run, before-run, after-run, run-said}
 use Rattle.answers.proofs.Reached as reached

@@ -62,7 +62,7 @@ use Rattle.answers.specs.Numbers.{reachedOf, hostSteppedOf}
 use Rattle.answers.specs.ReachedLaws.{step-bench, step-number, step-counters, step-closing}
 use Rattle.answers.specs.declared.Reached.{Reached}
 use Rattle.answers.specs.declared.HostStepped.{HostStepped}
-use Rattle.export_bench.proofs.Walk.{by-walk}
+use Rattle.walks.specs.Walk.{by-walk}
 use Rattle.export_bench.proofs.Lent.{benchRef, benchLast}
 use Rattle.export_bench.proofs.RunIn.{Run, to-run, before-run, after-run, run-said}
 use Rattle.answers.proofs.Reached as reached

@@ -56,7 +56,7 @@ use Rattle.answers.specs.Numbers.{reachedOf}
 use Rattle.answers.specs.declared.Reached.{Reached}
 use Rattle.answers.proofs.Reached as result
 use Rattle.answers.proofs.Reached.Laws as result-laws
-use Rattle.export_bench.proofs.Walk.{by-walk}
+use Rattle.walks.specs.Walk.{by-walk}
 use Rattle.export_bench.proofs.Lent.{benchVal, benchSeen, benchLent}
 use Rattle.run.proofs.run_bytes as work
 use Rattle.run.proofs.run_bytes.Symbol as work-symbol

@@ -17,12 +17,12 @@ unfoldable pub pairOf : ℕ → ℕ → ℕ
 pairOf low high = low + high * 256
 
 -- how many whole records there are
-unfoldable pub recordsIn : List ℕ → ℕ
-recordsIn calendar = length calendar / 8
+unfoldable pub periodsIn : List ℕ → ℕ
+periodsIn calendar = length calendar / 8
 
 -- record j, from 0; `rest` is its last two bytes
-unfoldable pub recordAt : List ℕ → ℕ → Period
-recordAt calendar j =
+unfoldable pub periodAt : List ℕ → ℕ → Period
+periodAt calendar j =
     record {
       site = getD calendar (8 * j) 0;
       kind = getD calendar (8 * j + 1) 0;
@@ -53,11 +53,11 @@ lies day p = not (below day (p .first)) && not (below (p .last) day)
 
 -- the day lies in some record of the kind and site among the first k
 unfoldable pub liesInTo : List ℕ → ℕ → ℕ → ℕ → ℕ → Bool
-liesInTo calendar k kind site day = some k (λ j. ownOf kind site (recordAt calendar j) && lies day (recordAt calendar j))
+liesInTo calendar k kind site day = some k (λ j. ownOf kind site (periodAt calendar j) && lies day (periodAt calendar j))
 
 -- in some record of the calendar
 abbrev pub liesIn : List ℕ → ℕ → ℕ → ℕ → Bool
-liesIn calendar kind site day = liesInTo calendar (recordsIn calendar) kind site day
+liesIn calendar kind site day = liesInTo calendar (periodsIn calendar) kind site day
 
 -- open on a day: in a term record of its own and in no closed record of its own
 unfoldable pub openOn : List ℕ → ℕ → ℕ → Bool
@@ -68,8 +68,8 @@ abbrev pub dayOf : ℕ → ℕ → ℕ
 dayOf week i = 7 * week + i
 
 -- takes part in a week: open on at least one of Monday to Friday
-unfoldable pub takesPart : List ℕ → ℕ → ℕ → Bool
-takesPart calendar week site = some 5 (λ i. openOn calendar site (dayOf week i))
+unfoldable pub takesPartIn : List ℕ → ℕ → ℕ → Bool
+takesPartIn calendar week site = some 5 (λ i. openOn calendar site (dayOf week i))
 
 -- ---- the numbering of those sites of 1 to 16 that take part
 
@@ -81,11 +81,11 @@ sitesOf takes = joined 16 (λ i. choose (takes (i + 1)) ((i + 1) ∷ []) [])
 unfoldable pub howMany : (ℕ → Bool) → ℕ → ℕ
 howMany takes s = count s (λ i. takes (i + 1))
 
--- the process of a site: it is the how manieth of them; 0 for none
+-- the process of a site: how many there are up to it, itself included; 0 for none
 unfoldable pub processOf : (ℕ → Bool) → ℕ → ℕ
 processOf takes site = choose (takes site) (howMany takes site) 0
 
--- the site of a process; 0 for none
+-- the site of a process, by that list; 0 for none
 unfoldable pub siteOf : (ℕ → Bool) → ℕ → ℕ
 siteOf takes process = getD (sitesOf takes) (process - 1) 0
 
@@ -104,11 +104,11 @@ noNumbering = record { n = 0; «process_of» = replicate 16 0; «site_of» = rep
 -- ---- the call
 
 -- 13: a partial record, or any record that is not well formed; then 14: nobody takes part
-unfoldable pub refusalOf : List ℕ → ℕ → ℕ
-refusalOf calendar week =
+unfoldable pub weekRefusal : List ℕ → ℕ → ℕ
+weekRefusal calendar week =
     check (same (length calendar % 8) 0) 13
-    (check (every (recordsIn calendar) (λ j. wellFormed (recordAt calendar j))) 13
-    (check (some 16 (λ i. takesPart calendar week (i + 1))) 14 0))
+    (check (every (periodsIn calendar) (λ j. wellFormed (periodAt calendar j))) 13
+    (check (some 16 (λ i. takesPartIn calendar week (i + 1))) 14 0))
 
 -- all of the numbering is 0
 unfoldable pub refusedBy : ℕ → WeekAnswer
@@ -119,6 +119,6 @@ answeredBy numbering = record { answer = 0; numbering = numbering }
 
 unfoldable pub weekOf : List ℕ → ℕ → WeekAnswer
 weekOf calendar week =
-    choose (same (refusalOf calendar week) 0)
-    (answeredBy (numberingOf (takesPart calendar week)))
-    (refusedBy (refusalOf calendar week))
+    choose (same (weekRefusal calendar week) 0)
+    (answeredBy (numberingOf (takesPartIn calendar week)))
+    (refusedBy (weekRefusal calendar week))

@@ -1,4 +1,5 @@
 pub mod Calendar
+pub mod Cases
 pub mod NumberingLaws
 pub mod PassLaws
 pub mod RecordLaws

@@ -17,7 +17,7 @@ use Rattle.sets.specs.TruthLaws.{clash, off-by, both-ways, and-l, and-r, and-mk
 use Rattle.sets.specs.TruthLaws.{not-on, same-on, same-mk, same-not}
 use Rattle.sets.specs.TruthLaws.{same-off, below-on, below-mk, below-not, below-off, eq-or, one-low, one-high, one-mk}
 use Rattle.calendar.specs.declared.Period.{Period}
-use Rattle.calendar.specs.Calendar.{recordsIn, recordAt, wellFormed, ownOf, lies, liesInTo, openOn, takesPart}
+use Rattle.calendar.specs.Calendar.{periodsIn, periodAt, wellFormed, ownOf, lies, liesInTo, openOn, takesPartIn}
 
 -- ---- the weekdays of one record: those before its end without those before its beginning
 module _ (monday : ℕ) (p : Period) where
@@ -109,11 +109,11 @@ module _ (calendar : List ℕ) (monday : ℕ) where
         ∙ and-none (below i 5) ∙ ap (λ b. below i 5 && b) (sym (some-none 0 _ (λ k l. absurd (omega arith))));
   }
 
-  module _ (j new : ℕ) (days : List ℕ) (w : wellFormed (recordAt calendar j) ≡ true)
-      (h : (i : ℕ) → has new i ≡ (below i 5 && lies (monday + i) (recordAt calendar j)))
+  module _ (j new : ℕ) (days : List ℕ) (w : wellFormed (periodAt calendar j) ≡ true)
+      (h : (i : ℕ) → has new i ≡ (below i 5 && lies (monday + i) (periodAt calendar j)))
       (m : Marked calendar monday j days) where
     abbrev p : Period
-    p = recordAt calendar j
+    p = periodAt calendar j
 
     abbrev at : ℕ
     at = slotOf (p .kind) (p .site)
@@ -214,7 +214,7 @@ unfolding _&&_
 shared true x y = refl
 shared false x y = refl
 
-module _ (calendar : List ℕ) (week : ℕ) (days : List ℕ) (m : Marked calendar (7 * week) (recordsIn calendar) days) where
+module _ (calendar : List ℕ) (week : ℕ) (days : List ℕ) (m : Marked calendar (7 * week) (periodsIn calendar) days) where
   open-day : (i d : ℕ) → i < 16
       → has (differenceOf (getD days i 0) (getD days (i + 16) 0)) d
       ≡ (below d 5 && openOn calendar (i + 1) (7 * week + d))
@@ -229,8 +229,8 @@ module _ (calendar : List ℕ) (week : ℕ) (days : List ℕ) (m : Marked calend
       (ap (λ (k : ℕ). has (getD days k 0) d) (sym b) ∙ m .marked 2 (i + 1) d (one-mk 2 2 (omega arith) (omega arith)) s)
       ∙ shared (below d 5) _ _
 
-  pub part-is : (i : ℕ) → i < 16 → someDay days i ≡ takesPart calendar week (i + 1)
-  unfolding someDay takesPart
+  pub part-is : (i : ℕ) → i < 16 → someDay days i ≡ takesPartIn calendar week (i + 1)
+  unfolding someDay takesPartIn
   part-is i l =
       both-ways _ _
       (λ e.
@@ -247,13 +247,13 @@ module _ (calendar : List ℕ) (week : ℕ) (days : List ℕ) (m : Marked calend
 
   -- so the set collected from the marks has just those who take part
   module _ (set : ℕ) (h : Collected (someDay days) 16 set) where
-    pub part-in : (i : ℕ) → i < 16 → has set i ≡ takesPart calendar week (i + 1)
+    pub part-in : (i : ℕ) → i < 16 → has set i ≡ takesPartIn calendar week (i + 1)
     part-in i l = h i ∙ and-on-l _ _ (below-mk i 16 l) ∙ part-is i l
 
-    pub nobody : set ≡ 0 → some 16 (λ i. takesPart calendar week (i + 1)) ≡ false
+    pub nobody : set ≡ 0 → some 16 (λ i. takesPartIn calendar week (i + 1)) ≡ false
     nobody e = some-none 16 _ (λ i l. sym (part-in i l) ∙ nothing-in set e i)
 
-    pub somebody : set ≢ 0 → some 16 (λ i. takesPart calendar week (i + 1)) ≡ true
+    pub somebody : set ≢ 0 → some 16 (λ i. takesPartIn calendar week (i + 1)) ≡ true
     somebody d =
         let w = member-of set d in
         let l : w .0 < 16 = below-on (w .0) 16 (and-l _ _ (sym (h (w .0)) ∙ w .1)) in

@@ -15,23 +15,23 @@ use Rattle.sets.specs.Truth.{_&&_, same, below, choose, check}
 use Rattle.sets.specs.TruthLaws.{both-ways, off-by, and-l, and-r, and-mk, and-off-l, same-on, same-mk}
 use Rattle.sets.specs.TruthLaws.{below-not, not-on, le-or}
 use Rattle.calendar.specs.declared.Period.{Period}
-use Rattle.calendar.specs.Calendar.{pairOf, recordsIn, recordAt, wellFormed, ownOf, lies, liesInTo, liesIn}
-use Rattle.calendar.specs.Calendar.{openOn, dayOf, takesPart, refusalOf, refusedBy, weekOf}
+use Rattle.calendar.specs.Calendar.{pairOf, periodsIn, periodAt, wellFormed, ownOf, lies, liesInTo, liesIn}
+use Rattle.calendar.specs.Calendar.{openOn, dayOf, takesPartIn, weekRefusal, refusedBy, weekOf}
 use Rattle.calendar.specs.RefusalLaws.{nobody-14}
 
 -- p is one of the calendar's records
 pub record In (p : Period) (calendar : List ℕ) : Type 0 where
   pub place : ℕ
-  pub inside : place < recordsIn calendar
-  pub found : recordAt calendar place ≡ p
+  pub inside : place < periodsIn calendar
+  pub found : periodAt calendar place ≡ p
 
 -- ---- records of two parts, one after the other; the first has whole records
 abbrev pub Whole : List ℕ → Type 0
 Whole x = length x % 8 ≡ 0
 
 module _ (x y : List ℕ) (w : Whole x) where
-  records-append : recordsIn (x ++ y) ≡ recordsIn x + recordsIn y
-  unfolding recordsIn
+  records-append : periodsIn (x ++ y) ≡ periodsIn x + periodsIn y
+  unfolding periodsIn
   records-append = omega (arith, length-append x y)
 
   byte-left : (k : ℕ) → k < length x → getD (x ++ y) k 0 ≡ getD x k 0
@@ -40,8 +40,8 @@ module _ (x y : List ℕ) (w : Whole x) where
   byte-right : (k : ℕ) → getD (x ++ y) (length x + k) 0 ≡ getD y k 0
   byte-right k = getD-append-add x y k 0
 
-  record-left : (j : ℕ) → j < recordsIn x → recordAt (x ++ y) j ≡ recordAt x j
-  unfolding recordsIn recordAt
+  record-left : (j : ℕ) → j < periodsIn x → periodAt (x ++ y) j ≡ periodAt x j
+  unfolding periodsIn periodAt
   record-left j l =
       rw (
         byte-left (8 * j) (omega arith),
@@ -54,8 +54,8 @@ module _ (x y : List ℕ) (w : Whole x) where
         byte-left (8 * j + 7) (omega arith),
       )
 
-  record-right : (j : ℕ) → recordAt (x ++ y) (recordsIn x + j) ≡ recordAt y j
-  unfolding recordsIn recordAt
+  record-right : (j : ℕ) → periodAt (x ++ y) (periodsIn x + j) ≡ periodAt y j
+  unfolding periodsIn periodAt
   record-right j = rw (first, at 1, at 2, at 3, at 4, at 5, at 6, at 7)
     where
       first : getD (x ++ y) (8 * (length x / 8 + j)) 0 ≡ getD y (8 * j) 0
@@ -77,34 +77,34 @@ module _ (x y : List ℕ) (w : Whole x) where
 
   pub in-right : (p : Period) → In p y → In p (x ++ y)
   in-right p h = record {
-    place = recordsIn x + h .place;
+    place = periodsIn x + h .place;
     inside = omega (arith, h .inside, records-append);
     found = record-right (h .place) ∙ h .found;
   }
 
   pub in-either : (p : Period) → In p (x ++ y) → In p x ⊎ In p y
-  in-either p h = go (le-or (recordsIn x) (h .place))
+  in-either p h = go (le-or (periodsIn x) (h .place))
     where
-      go : (recordsIn x ≤ h .place) ⊎ (h .place < recordsIn x) → In p x ⊎ In p y
+      go : (periodsIn x ≤ h .place) ⊎ (h .place < periodsIn x) → In p x ⊎ In p y
       go (inr l) =
           inl (record { place = h .place; inside = l; found = sym (record-left (h .place) l) ∙ h .found })
       go (inl l) =
-          let e : recordsIn x + (h .place - recordsIn x) ≡ h .place = omega arith in
+          let e : periodsIn x + (h .place - periodsIn x) ≡ h .place = omega arith in
           inr (record {
-            place = h .place - recordsIn x;
+            place = h .place - periodsIn x;
             inside = omega (arith, h .inside, records-append);
-            found = sym (record-right (h .place - recordsIn x)) ∙ ap (recordAt (x ++ y)) e ∙ h .found;
+            found = sym (record-right (h .place - periodsIn x)) ∙ ap (periodAt (x ++ y)) e ∙ h .found;
           })
 
 -- ---- the answer by the calendar's records
 module _ (calendar : List ℕ) where
   -- every record is well formed, and a day lies in some record of a kind and site
-  pub formed-on : every (recordsIn calendar) (λ j. wellFormed (recordAt calendar j)) ≡ true
+  pub formed-on : every (periodsIn calendar) (λ j. wellFormed (periodAt calendar j)) ≡ true
       → (p : Period) → In p calendar → wellFormed p ≡ true
   formed-on e p h = ap wellFormed (sym (h .found)) ∙ every-on _ _ e (h .place) (h .inside)
 
   pub formed-mk : ((p : Period) → In p calendar → wellFormed p ≡ true)
-      → every (recordsIn calendar) (λ j. wellFormed (recordAt calendar j)) ≡ true
+      → every (periodsIn calendar) (λ j. wellFormed (periodAt calendar j)) ≡ true
   formed-mk f = every-mk _ _ (λ j l. f _ (record { place = j; inside = l; found = refl }))
 
   pub lies-on : (kind site day : ℕ) → liesIn calendar kind site day ≡ true
@@ -112,7 +112,7 @@ module _ (calendar : List ℕ) where
   unfolding liesInTo
   lies-on kind site day e =
       let w = some-on _ _ e in
-      (recordAt calendar (w .0), record { place = w .0; inside = w .1; found = refl }, and-l _ _ (w .2), and-r _ _ (w .2))
+      (periodAt calendar (w .0), record { place = w .0; inside = w .1; found = refl }, and-l _ _ (w .2), and-r _ _ (w .2))
 
   pub lies-mk : (kind site day : ℕ) (p : Period) → In p calendar → ownOf kind site p ≡ true → lies day p ≡ true
       → liesIn calendar kind site day ≡ true
@@ -124,17 +124,17 @@ module _ (calendar : List ℕ) where
 -- whether a site takes part, by the days that lie in its records
 pub part-cong : (a b : List ℕ) (week site : ℕ)
     → ((kind i : ℕ) → i < 5 → liesIn a kind site (dayOf week i) ≡ liesIn b kind site (dayOf week i))
-    → takesPart a week site ≡ takesPart b week site
-unfolding takesPart openOn
+    → takesPartIn a week site ≡ takesPartIn b week site
+unfolding takesPartIn openOn
 part-cong a b week site h = some-cong 5 _ _ (λ i l. ap₂ (λ s c. s && not c) (h 1 i l) (h 2 i l))
 
 -- the answer, by its three parts
 pub week-cong : (a b : List ℕ) (week : ℕ) → same (length a % 8) 0 ≡ same (length b % 8) 0
-    → every (recordsIn a) (λ j. wellFormed (recordAt a j)) ≡ every (recordsIn b) (λ j. wellFormed (recordAt b j))
-    → ((site : ℕ) → takesPart a week site ≡ takesPart b week site) → weekOf a week ≡ weekOf b week
-unfolding weekOf refusalOf
+    → every (periodsIn a) (λ j. wellFormed (periodAt a j)) ≡ every (periodsIn b) (λ j. wellFormed (periodAt b j))
+    → ((site : ℕ) → takesPartIn a week site ≡ takesPartIn b week site) → weekOf a week ≡ weekOf b week
+unfolding weekOf weekRefusal
 week-cong a b week w f t =
-    let e : takesPart a week ≡ takesPart b week = fun-ext t in
+    let e : takesPartIn a week ≡ takesPartIn b week = fun-ext t in
     rw (w, f, e)
 
 -- ---- the laws
@@ -177,13 +177,6 @@ order-free x r s y week wx wr ws =
         (in-either s y ws p k)) (in-either r (s ++ y) wr p i)))
         (in-either x (r ++ (s ++ y)) wx p h)
 
--- records that stand there already change nothing
-pub twice-once : (x r : List ℕ) (week : ℕ) → Whole x → Whole r → ((p : Period) → In p r → In p x)
-    → weekOf (r ++ x) week ≡ weekOf x week
-twice-once x r week wx wr f =
-    same-records (r ++ x) x week (omega (arith, length-append r x))
-    (λ p h. ⊎-elim (f p) (λ i. i) (in-either r x wr p h)) (in-right r x wr)
-
 -- ---- what a record moves
 module _ (x r y : List ℕ) (week : ℕ) (wx : Whole x) (wr : Whole r) where
   in-more : (p : Period) → In p (x ++ y) → In p (x ++ (r ++ y))
@@ -195,10 +188,17 @@ module _ (x r y : List ℕ) (week : ℕ) (wx : Whole x) (wr : Whole r) where
       ⊎-elim (λ i. inr (in-left x y wx p i))
       (λ i. ⊎-elim inl (λ k. inr (in-right x y wx p k)) (in-either r y wr p i)) (in-either x (r ++ y) wx p h)
 
+  -- records that stand there already change nothing
+  pub there-already : ((p : Period) → In p r → In p (x ++ y)) → weekOf (x ++ (r ++ y)) week ≡ weekOf (x ++ y) week
+  there-already f =
+      same-records (x ++ (r ++ y)) (x ++ y) week
+      (omega (arith, length-append x (r ++ y), length-append r y, length-append x y))
+      (λ p h. ⊎-elim (f p) (λ i. i) (in-less p h)) in-more
+
   -- records of r in which no weekday of the week lies that counts for the site
   unmoved : (site : ℕ)
       → ((p : Period) → In p r → (kind i : ℕ) → i < 5 → ownOf kind site p ≡ true → lies (dayOf week i) p ≡ true → ⊥)
-      → takesPart (x ++ (r ++ y)) week site ≡ takesPart (x ++ y) week site
+      → takesPartIn (x ++ (r ++ y)) week site ≡ takesPartIn (x ++ y) week site
   unmoved site f =
       part-cong (x ++ (r ++ y)) (x ++ y) week site (λ kind i l.
       both-ways _ _
@@ -212,7 +212,7 @@ module _ (x r y : List ℕ) (week : ℕ) (wx : Whole x) (wr : Whole r) where
 
   -- records of other sites, closed or term, do not change whether a site takes part
   pub other-site : (site : ℕ) → ((p : Period) → In p r → p .site ≢ site)
-      → takesPart (x ++ (r ++ y)) week site ≡ takesPart (x ++ y) week site
+      → takesPartIn (x ++ (r ++ y)) week site ≡ takesPartIn (x ++ y) week site
   unfolding ownOf
   other-site site f = unmoved site (λ p k kind i l o e. f p k (same-on (p .site) site (and-r _ _ o)))
 
@@ -244,10 +244,18 @@ module _ (x r y : List ℕ) (week : ℕ) (wx : Whole x) (wr : Whole r) where
         below-not (p .last) (dayOf week i) (not-on _ (and-r _ _ e)),
       ))
 
+-- a record twice is a record once, wherever the second stands
+pub twice-once : (x r y z : List ℕ) (week : ℕ) → Whole x → Whole r → Whole y
+    → weekOf ((x ++ (r ++ y)) ++ (r ++ z)) week ≡ weekOf ((x ++ (r ++ y)) ++ z) week
+twice-once x r y z week wx wr wy =
+    let w : Whole (x ++ (r ++ y)) = omega (arith, length-append x (r ++ y), length-append r y) in
+    there-already (x ++ (r ++ y)) r z week w wr
+    (λ p h. in-left (x ++ (r ++ y)) z w p (in-right x (r ++ y) wx p (in-left r y wr p h)))
+
 -- ---- weeks past 9,362: day 65,535 is the Tuesday of that week
 module _ (calendar : List ℕ) (bytes : (k : ℕ) → getD calendar k 0 < 256) (week : ℕ) (late : 9362 < week) where
   last-small : (p : Period) → In p calendar → p .last ≤ 65535
-  unfolding recordAt pairOf
+  unfolding periodAt pairOf
   last-small p h =
       let e : p .last ≡ pairOf (getD calendar (8 * h .place + 4) 0) (getD calendar (8 * h .place + 5) 0) =
       ap (λ (q : Period). q .last) (sym (h .found)) in
@@ -257,13 +265,13 @@ module _ (calendar : List ℕ) (bytes : (k : ℕ) → getD calendar k 0 < 256) (
   unfolding lies
   last-there p i e = below-not (p .last) (dayOf week i) (not-on _ (and-r _ _ e))
 
-  pub past-part : (site : ℕ) → takesPart calendar week site ≡ false
-  unfolding takesPart openOn
+  pub past-part : (site : ℕ) → takesPartIn calendar week site ≡ false
+  unfolding takesPartIn openOn
   past-part site = some-none 5 _ (λ i l. and-off-l _ _ (off-by _ (λ e.
       let w = lies-on calendar 1 site (dayOf week i) e in
       omega (arith, last-small (w .0) (w .1), last-there (w .0) i (w .3)))))
 
   -- nobody takes part, so 14 if it is not 13
-  pub past-weeks : Whole calendar → every (recordsIn calendar) (λ j. wellFormed (recordAt calendar j)) ≡ true
+  pub past-weeks : Whole calendar → every (periodsIn calendar) (λ j. wellFormed (periodAt calendar j)) ≡ true
       → weekOf calendar week ≡ refusedBy 14
   past-weeks w f = nobody-14 calendar week (same-mk _ 0 w) f (some-none 16 _ (λ i l. past-part (i + 1)))

@@ -10,7 +10,7 @@ use Rattle.sets.specs.EachLaws.{length-each, getD-each}
 use Rattle.sets.specs.Truth.{oneTo}
 use Rattle.sets.specs.TruthLaws.{choose-on, choose-off, same-mk, one-low, one-high, one-mk, le-or}
 use Rattle.calendar.specs.declared.Numbering.{Numbering}
-use Rattle.calendar.specs.Calendar.{sitesOf, howMany, processOf, siteOf, numberingOf, weekOf, takesPart, refusalOf}
+use Rattle.calendar.specs.Calendar.{sitesOf, howMany, processOf, siteOf, numberingOf, weekOf, takesPartIn, weekRefusal}
 use Rattle.calendar.specs.Calendar.{answeredBy}
 use Rattle.calendar.specs.NumberingLaws.{sitesTo, length-sites, many-bound, many-on, many-le, Placed, placed, number-one}
 
@@ -121,10 +121,10 @@ module _ (takes : ℕ → Bool) where
           go (inr h) = h
 
 -- so says every answer that is not a refusal
-pub week-numbers : (calendar : _) (week : ℕ) → refusalOf calendar week ≡ 0
-    → Numbers (takesPart calendar week) (weekOf calendar week .numbering)
+pub week-numbers : (calendar : _) (week : ℕ) → weekRefusal calendar week ≡ 0
+    → Numbers (takesPartIn calendar week) (weekOf calendar week .numbering)
 unfolding weekOf answeredBy
 week-numbers calendar week e =
-    let w : weekOf calendar week ≡ answeredBy (numberingOf (takesPart calendar week)) =
+    let w : weekOf calendar week ≡ answeredBy (numberingOf (takesPartIn calendar week)) =
     choose-on _ _ _ (same-mk _ 0 e) in
-    rw w (numbering-is (takesPart calendar week))
+    rw w (numbering-is (takesPartIn calendar week))

@@ -9,7 +9,7 @@ ghost use lib.ListN.{length};
 ghost use Rattle.sets.specs.Lists.{each, every};
 ghost use Rattle.sets.specs.Set.{has};
 ghost use Rattle.sets.specs.Truth.{_&&_, below};
-ghost use Rattle.calendar.specs.Calendar.{pairOf, recordsIn, recordAt, wellFormed, lies};
+ghost use Rattle.calendar.specs.Calendar.{pairOf, periodsIn, periodAt, wellFormed, lies};
 ghost use Rattle.calendar.specs.Calendar.{processOf, siteOf, numberingOf, refusedBy, weekOf};
 ghost use Rattle.calendar.specs.PassLaws.{slotOf, Marked, Collected, someDay};
 
@@ -49,9 +49,9 @@ fn pair(low: u8, high: u8) -> u16
 }
 
 // Record j, from 0.
-fn record_at(calendar: &[u8], j: usize) -> Period
+fn period_at(calendar: &[u8], j: usize) -> Period
     requires { ⌜ j < length (now calendar) / 8 ⌝ }
-    ensures { λ r. ⌜ r ≡ recordAt (now (calendar .entry)) j ⌝ }
+    ensures { λ r. ⌜ r ≡ periodAt (now (calendar .entry)) j ⌝ }
 {
     let at = 8 * j;
     Period {
@@ -105,15 +105,15 @@ fn slot_of(p: Period) -> usize
 fn mark_days(calendar: &[u8], monday: u32) -> Marks
     requires { ⌜ monday ≤ 458745 ⌝ }
     ensures { λ r. ⌜ r .valid
-        ≡ every (recordsIn (now (calendar .entry))) (λ j. wellFormed (recordAt (now (calendar .entry)) j)) ⌝ }
+        ≡ every (periodsIn (now (calendar .entry))) (λ j. wellFormed (periodAt (now (calendar .entry)) j)) ⌝ }
     ensures { λ r. ⌜ (r .valid ≡ true
-        → Marked (now (calendar .entry)) monday (recordsIn (now (calendar .entry))) (r .days)) ⌝ }
+        → Marked (now (calendar .entry)) monday (periodsIn (now (calendar .entry))) (r .days)) ⌝ }
 {
     let mut days: [u16; 32] = [0; 32];
     let records = calendar.len() / 8;
     let mut j = 0;
     while j < records {
-        let p = record_at(calendar, j);
+        let p = period_at(calendar, j);
         if !well_formed(p) {
             return Marks { valid: false, days };
         }

@@ -12,7 +12,7 @@ pub struct HostWeek {
 }
 
 // With the host's numbering by value.
-pub fn host_week(calendar: &[u8], week: u16, old: Numbering) -> HostWeek
+fn host_week(calendar: &[u8], week: u16, old: Numbering) -> HostWeek
     ensures { λ r. ⌜ r ≡ hostWeekOf (now (calendar .entry)) week old ⌝ }
 {
     let r = calendar::week(calendar, week);

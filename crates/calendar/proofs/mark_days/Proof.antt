@@ -11,14 +11,14 @@ use Rattle.sets.specs.EveryLaws.{every-off, every-suc}
 use Rattle.sets.specs.Lists.{every}
 use Rattle.sets.specs.Truth.{_&&_, below}
 use Rattle.sets.specs.TruthLaws.{not-on, not-off}
-use Rattle.calendar.specs.Calendar.{recordsIn, recordAt, wellFormed, lies}
+use Rattle.calendar.specs.Calendar.{periodsIn, periodAt, wellFormed, lies}
 use Rattle.calendar.specs.PassLaws.{Marked, mark-none, mark-more}
 use Rattle.calendar.proofs.mark_days.Statement.{statement}
 use Rattle.calendar.proofs.mark_days.Tie as tie
 
 abbrev Inv-loop : tie.InvT-loop
 Inv-loop calendar monday days₀ records j₀ days j =
-    (j ≤ length calendar / 8) × (every j (λ k. wellFormed (recordAt calendar k)) ≡ true) × Marked calendar monday j days
+    (j ≤ length calendar / 8) × (every j (λ k. wellFormed (periodAt calendar k)) ≡ true) × Marked calendar monday j days
 
 abbrev μ-loop : tie.MeasureT-loop
 μ-loop calendar monday days₀ records j₀ days j = length calendar / 8 - j
@@ -27,17 +27,17 @@ loop-holds : tie.Need-loop-holds Inv-loop μ-loop
 unfolding every
 loop-holds c = (search needs, refl, mark-none _ _)
 
-record-at-requires : tie.Need-record-at-requires Inv-loop μ-loop
-record-at-requires c κs = search needs
+period-at-requires : tie.Need-period-at-requires Inv-loop μ-loop
+period-at-requires c κs = search needs
 
 well-formed-requires : tie.Need-well-formed-requires Inv-loop μ-loop
 well-formed-requires c κs = search needs
 
 returns : tie.Need-returns Inv-loop μ-loop
-unfolding recordsIn
+unfolding periodsIn
 returns c =
     let l = c .before .before .before .before .loop in
-    let e = ap wellFormed (sym (c .before .before .record-at .ensures)) ∙ sym (c .before .well-formed .ensures) ∙ not-on _ (c .if1 .taken) in
+    let e = ap wellFormed (sym (c .before .before .period-at .ensures)) ∙ sym (c .before .well-formed .ensures) ∙ not-on _ (c .if1 .taken) in
     (sym (every-off _ _ (l .j) (c .before .before .before .loop-test .taken) e), λ h. absurd (true≢false (sym h)))
 
 slot-of-requires : tie.Need-slot-of-requires Inv-loop μ-loop
@@ -72,7 +72,7 @@ loop-again c =
     let b = c .before .before .before .before in
     let a = b .before .before .before .before .before .args in
     let l = b .before .before .before .loop in
-    let r = b .before .record-at .ensures in
+    let r = b .before .period-at .ensures in
     let f = ap wellFormed (sym r) ∙ sym (b .well-formed .ensures) ∙ not-off _ (c .before .before .before .if1 .left) in (
       search needs,
       rw add-one (every-suc (l .j) _ (l .inv .1) f),
@@ -82,12 +82,12 @@ loop-again c =
     )
 
 returns-2 : tie.Need-returns-2 Inv-loop μ-loop
-unfolding recordsIn
+unfolding periodsIn
 returns-2 c =
     let e = le-antisymm (c .before .loop .inv .0) (c .loop-test .left) in
     (sym (rw e at (c .before .loop .inv .1)), λ h. rw e at (c .before .loop .inv .2))
 
 pub mark-days-spec : {M : Type 1} → statement M
-mark-days-spec = tie.close (tie.spec Inv-loop μ-loop loop-holds record-at-requires well-formed-requires
+mark-days-spec = tie.close (tie.spec Inv-loop μ-loop loop-holds period-at-requires well-formed-requires
     returns slot-of-requires mul-union array-read-union weekdays-in-requires union-requires mul-days array-write-days
     add-j loop-less loop-again returns-2)

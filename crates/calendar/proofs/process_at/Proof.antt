@@ -1,8 +1,9 @@
 -- The sites of the set up to the one asked for are counted by the size of the set cut there.
-use mathlib.Core.Path.{sym, _∙_}
+use mathlib.Core.Path.{sym, _∙_, ap}
 use Prim.Native.Nat.{_+_}
 use native.Mathlib.Omega.{arith}
 use borrow.Author.Needs.{needs}
+use Rattle.sets.specs.Set.{intersectionOf, sizeOf}
 use Rattle.sets.specs.TruthLaws.{choose-on, choose-off}
 use Rattle.calendar.specs.Calendar.{processOf}
 use Rattle.calendar.specs.NumberingLaws.{inSet, in-set, many-bound, size-to}
@@ -11,23 +12,21 @@ use Rattle.calendar.proofs.process_at.Tie as tie
 
 cast-result : tie.Need-cast-result
 cast-result c =
-    let a = c .before .before .before .before .before .args in
-    rw (
-      c .size .ensures,
-      c .before .intersection .ensures,
-      c .before .before .all .ensures,
-      size-to (a .set) (a .i + 1),
-    )
-    (record { fits = omega (arith, many-bound (inSet (a .set)) (a .i + 1), c .before .before .before .before .before .pre) })
+    let b = c .before .before .before .before .before in
+    let a = b .args in
+    let e = c .size .ensures ∙ ap sizeOf (c .before .intersection .ensures
+    ∙ ap (intersectionOf (a .set)) (c .before .before .all .ensures)) ∙ size-to (a .set) (a .i + 1) in
+    record { fits = omega (arith, e, many-bound (inSet (a .set)) (a .i + 1), b .pre) }
 
 returns : tie.Need-returns
 unfolding processOf
 returns c =
-    let a = c .before .before .before .before .before .args in
-    rw (c .size .ensures, c .before .intersection .ensures, c .before .before .all .ensures)
-    (size-to (a .set) (a .i + 1)
-    ∙ sym (choose-on _ _ _ (sym (in-set (a .set) (a .i)) ∙ sym (c .before .before .before .before .member .ensures)
-    ∙ c .before .before .before .if1 .taken)))
+    let b = c .before .before .before .before in
+    let a = b .before .args in
+    let e = c .size .ensures ∙ ap sizeOf (c .before .intersection .ensures
+    ∙ ap (intersectionOf (a .set)) (c .before .before .all .ensures)) ∙ size-to (a .set) (a .i + 1) in
+    e ∙ sym (choose-on _ _ _ (sym (in-set (a .set) (a .i)) ∙ sym (b .member .ensures)
+    ∙ c .before .before .before .if1 .taken))
 
 returns-2 : tie.Need-returns-2
 unfolding processOf

@@ -6,7 +6,7 @@ use native.Mathlib.Omega.{arith}
 use borrow.Author.Needs.{needs}
 use lib.ListN.{length}
 use Rattle.sets.specs.TruthLaws.{not-on, not-off, same-mk, same-off}
-use Rattle.calendar.specs.Calendar.{recordsIn, takesPart, answeredBy}
+use Rattle.calendar.specs.Calendar.{periodsIn, takesPartIn, answeredBy}
 use Rattle.calendar.specs.NumberingLaws.{inSet, in-set, numbering-cong}
 use Rattle.calendar.specs.PassLaws.{Marked, part-in, nobody, somebody}
 use Rattle.calendar.specs.RefusalLaws.{partial-13, record-13, nobody-14, answered}

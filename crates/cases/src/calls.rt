@@ -14,6 +14,7 @@ use bench::Bench;
 use bench::Cause;
 use bench::Listed;
 use bench::Shown;
+use calendar::week;
 use decision::global_data;
 use one_record::step_bytes;
 use process::Closing;
@@ -190,6 +191,33 @@ fn aggregate(n: u8, marks: u16, process: u8, entries: &[u32]) {
     }
 }
 
+fn say_sixteen(numbers: [u8; 16]) {
+    let mut i = 0;
+    while i < 16 {
+        say(numbers[i] as u32);
+        i += 1;
+    }
+}
+
+fn of_two(high: u8, low: u8) -> u16 {
+    high as u16 * 256 + low as u16
+}
+
+// The week as two numbers, the high one first, and the bytes of the calendar.
+fn calendar(l: Line) {
+    let numbers = l.numbers;
+    let asked = of_two(numbers[0], numbers[1]);
+    let bytes = rest(&numbers, l.count);
+    let a = week(rest(bytes, bytes.len()), asked);
+    let found = a.numbering;
+    let processes = found.process_of;
+    let sites = found.site_of;
+    say(a.answer as u32);
+    say(found.n as u32);
+    say_sixteen(processes);
+    say_sixteen(sites);
+}
+
 // The calls that only read, with the line's first three numbers
 fn look(b: Bench, letter: u8, first: u8, second: u8, third: u8) {
     match letter {
@@ -212,6 +240,10 @@ pub fn answer(b: Bench, l: Line) -> Bench {
         b'o' => open(first, second),
         b'r' => records(b, l),
         b'f' => force(b, first),
+        b'w' => {
+            calendar(l);
+            b
+        }
         _ => {
             look(b, letter, first, second, l.numbers[2]);
             b

@@ -53,7 +53,8 @@ lies day p = not (below day (p .first)) && not (below (p .last) day)
 
 -- the day lies in some record of the kind and site among the first k
 unfoldable pub liesInTo : List ℕ → ℕ → ℕ → ℕ → ℕ → Bool
-liesInTo calendar k kind site day = some k (λ j. ownOf kind site (periodAt calendar j) && lies day (periodAt calendar j))
+liesInTo calendar k kind site day =
+    some k (λ j. ownOf kind site (periodAt calendar j) && lies day (periodAt calendar j))
 
 -- in some record of the calendar
 abbrev pub liesIn : List ℕ → ℕ → ℕ → ℕ → Bool

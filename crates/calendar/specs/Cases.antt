@@ -1,8 +1,7 @@
 -- Weeks of explicit calendars, as one table, and one theorem that the definition answers each of them: the checker
--- computes it. First and last days, weekends, closed days, sixteen sites, the last weeks that days of 16 bits reach, and
--- each ground of the two refusals.
+-- computes it. First and last days, weekends, closed days, sixteen sites, the last week that days of 16 bits reach,
+-- and each ground of the two refusals.
 use mathlib.Core.Path.{_≡_, refl}
-use mathlib.Core.Bool.{not}
 use mathlib.Core.List.{List, [], _∷_, _++_, map}
 use Prim.Native.Nat.{ℕ, _+_, _-_, _/_, _%_}
 use lib.ListN.{length, replicate}

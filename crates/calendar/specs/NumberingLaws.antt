@@ -57,7 +57,8 @@ module _ (takes : ℕ → Bool) where
   pub many-le : (m k : ℕ) → m ≤ k → howMany takes m ≤ howMany takes k
   many-le m zero h = let e : m ≡ 0 = omega arith in rw e (omega arith)
   many-le m (suc k) h =
-      ⊎-elim (λ e. rw e (omega arith)) (λ d. omega (arith, many-le m k (omega arith), many-step k .0)) (eq-or m (suc k))
+      ⊎-elim (λ e. rw e (omega arith)) (λ d. omega (arith, many-le m k (omega arith), many-step k .0))
+      (eq-or m (suc k))
 
   pub many-bound : (m : ℕ) → howMany takes m ≤ m
   many-bound zero = omega (arith, many-zero)
@@ -153,7 +154,12 @@ module _ (takes : ℕ → Bool) where
       long : length (storedTo 16 (replicate 16 0)) ≡ 16
       long =
           length-append (sitesTo takes 16) rest
-          ∙ omega (arith, length-sites takes 16, length-drop {A = ℕ} (howMany takes 16) (replicate 16 0), many-bound takes 16)
+          ∙ omega (
+            arith,
+            length-sites takes 16,
+            length-drop {A = ℕ} (howMany takes 16) (replicate 16 0),
+            many-bound takes 16,
+          )
 
       go : (k : ℕ) → k < 16 → (howMany takes 16 ≤ k) ⊎ (k < howMany takes 16)
           → getD (storedTo 16 (replicate 16 0)) k 0 ≡ getD (sitesTo takes 16) (k + 1 - 1) 0
@@ -185,7 +191,9 @@ module _ (t u : ℕ → Bool) where
   unfolding numberingOf processOf siteOf sitesOf sitesTo
   numbering-cong h = λ k. record {
     n = many-cong 16 h k;
-    «process_of» = each-cong 16 _ _ (λ i l. ap₂ (λ b n. choose b n 0) (h i l) (many-cong (i + 1) (λ j d. h j (omega arith)))) k;
+    «process_of» =
+        each-cong 16 _ _
+        (λ i l. ap₂ (λ b n. choose b n 0) (h i l) (many-cong (i + 1) (λ j d. h j (omega arith)))) k;
     «site_of» = each 16 (λ i. getD (sites-cong 16 h k) (i + 1 - 1) 0);
   }
 

@@ -1,5 +1,5 @@
--- One pass over the records tells who takes part: of each kind and site it marks the weekdays that lie in a record, and
--- a site takes part where a day marked as term is not marked as closed. By induction on the records looked at.
+-- One pass over the records tells who takes part: of each kind and site it marks the weekdays that lie in a record,
+-- and a site takes part where a day marked as term is not marked as closed. By induction on the records looked at.
 use mathlib.Core.Path.{_≡_, refl, sym, _∙_, ap, ap₂}
 use mathlib.Core.Bool.{Bool, true, false, not}
 use mathlib.Core.List.{List}
@@ -13,7 +13,8 @@ use Rattle.sets.specs.Laws.{has-all, has-difference, has-empty, has-insert, has
 use Rattle.sets.specs.Lists.{some}
 use Rattle.sets.specs.Set.{has, insertOf, unionOf, differenceOf, allOf}
 use Rattle.sets.specs.Truth.{_&&_, _||_, same, below, oneTo}
-use Rattle.sets.specs.TruthLaws.{clash, off-by, both-ways, and-l, and-r, and-mk, and-on-l, and-off-l, and-off-r, or-mk-l, or-off-l}
+use Rattle.sets.specs.TruthLaws.{clash, off-by, both-ways, and-l, and-r, and-mk, and-on-l, and-off-l, and-off-r}
+use Rattle.sets.specs.TruthLaws.{or-mk-l, or-off-l}
 use Rattle.sets.specs.TruthLaws.{not-on, same-on, same-mk, same-not}
 use Rattle.sets.specs.TruthLaws.{same-off, below-on, below-mk, below-not, below-off, eq-or, one-low, one-high, one-mk}
 use Rattle.calendar.specs.declared.Period.{Period}
@@ -123,7 +124,8 @@ module _ (calendar : List ℕ) (monday : ℕ) where
 
     -- a day in one of the first j records, or in this one
     lies-more : (kind site day : ℕ)
-        → liesInTo calendar (suc j) kind site day ≡ ((ownOf kind site p && lies day p) || liesInTo calendar j kind site day)
+        → liesInTo calendar (suc j) kind site day
+        ≡ ((ownOf kind site p && lies day p) || liesInTo calendar j kind site day)
     unfolding liesInTo
     lies-more kind site day = some-suc j _
 
@@ -184,7 +186,9 @@ module _ (q : ℕ → Bool) (i m : ℕ) (h : Collected q i m) where
   -- a number other than i is below both or neither
   apart : (k : ℕ) → k ≢ i → has m k ≡ (below k (i + 1) && q k)
   apart k d =
-      h k ∙ ap (λ b. b && q k) (both-ways (below k i) (below k (i + 1)) (λ e. below-mk k (i + 1) (omega (arith, below-on k i e)))
+      h k
+      ∙ ap (λ b. b && q k)
+      (both-ways (below k i) (below k (i + 1)) (λ e. below-mk k (i + 1) (omega (arith, below-on k i e)))
       (λ e. below-mk k i (omega (arith, below-on k (i + 1) e))))
 
   pub collect-on : q i ≡ true → Collected q (i + 1) (insertOf m i)
@@ -214,7 +218,8 @@ unfolding _&&_
 shared true x y = refl
 shared false x y = refl
 
-module _ (calendar : List ℕ) (week : ℕ) (days : List ℕ) (m : Marked calendar (7 * week) (periodsIn calendar) days) where
+module _ (calendar : List ℕ) (week : ℕ) (days : List ℕ)
+    (m : Marked calendar (7 * week) (periodsIn calendar) days) where
   open-day : (i d : ℕ) → i < 16
       → has (differenceOf (getD days i 0) (getD days (i + 16) 0)) d
       ≡ (below d 5 && openOn calendar (i + 1) (7 * week + d))
@@ -223,10 +228,12 @@ module _ (calendar : List ℕ) (week : ℕ) (days : List ℕ) (m : Marked calend
       let s : oneTo 16 (i + 1) ≡ true = one-mk 16 (i + 1) (omega arith) (omega arith) in
       let a : slotOf 1 (i + 1) ≡ i = omega arith in
       let b : slotOf 2 (i + 1) ≡ i + 16 = omega arith in
+      let one : oneTo 2 1 ≡ true = one-mk 2 1 (omega arith) (omega arith) in
+      let two : oneTo 2 2 ≡ true = one-mk 2 2 (omega arith) (omega arith) in
       has-difference _ _ d
       ∙ ap₂ (λ x y. x && not y)
-      (ap (λ (k : ℕ). has (getD days k 0) d) (sym a) ∙ m .marked 1 (i + 1) d (one-mk 2 1 (omega arith) (omega arith)) s)
-      (ap (λ (k : ℕ). has (getD days k 0) d) (sym b) ∙ m .marked 2 (i + 1) d (one-mk 2 2 (omega arith) (omega arith)) s)
+      (ap (λ (k : ℕ). has (getD days k 0) d) (sym a) ∙ m .marked 1 (i + 1) d one s)
+      (ap (λ (k : ℕ). has (getD days k 0) d) (sym b) ∙ m .marked 2 (i + 1) d two s)
       ∙ shared (below d 5) _ _
 
   pub part-is : (i : ℕ) → i < 16 → someDay days i ≡ takesPartIn calendar week (i + 1)
@@ -235,7 +242,8 @@ module _ (calendar : List ℕ) (week : ℕ) (days : List ℕ) (m : Marked calend
       both-ways _ _
       (λ e.
       let w = member-of left (same-not left 0 (not-on _ e)) in
-      let b : (below (w .0) 5 && openOn calendar (i + 1) (7 * week + w .0)) ≡ true = sym (open-day i (w .0) l) ∙ w .1 in
+      let b : (below (w .0) 5 && openOn calendar (i + 1) (7 * week + w .0)) ≡ true =
+      sym (open-day i (w .0) l) ∙ w .1 in
       some-mk 5 _ (w .0) (below-on (w .0) 5 (and-l _ _ b)) (and-r _ _ b))
       (λ e.
       let w = some-on 5 _ e in

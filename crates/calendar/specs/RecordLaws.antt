@@ -2,16 +2,16 @@
 -- stands there. A record of another site does not move a site, and one that has none of a week's weekdays moves
 -- nothing in that week. All by one reading: a day lies in some record just where there is such a record.
 use mathlib.Core.Path.{_≡_, refl, sym, _∙_, ap, ap₂, fun-ext}
-use mathlib.Core.Bool.{Bool, true, false, not}
-use mathlib.Core.List.{List, [], _∷_, _++_}
+use mathlib.Core.Bool.{true, false, not}
+use mathlib.Core.List.{List, _++_}
 use mathlib.Core.Logic.{_≢_, _⊎_, inl, inr, ⊎-elim}
-use Prim.Native.Nat.{ℕ, suc, _+_, _-_, _*_, _/_, _%_, _≤_, _<_}
+use Prim.Native.Nat.{ℕ, _+_, _-_, _*_, _/_, _%_, _≤_, _<_}
 use native.Mathlib.Omega.{arith}
 use lib.ListN.{length, getD, length-append, List·getD-append}
 use lib.Seq.{getD-append-add}
 use Rattle.sets.specs.EveryLaws.{every-on, every-mk, some-on, some-mk, some-cong, some-none}
-use Rattle.sets.specs.Lists.{every, some}
-use Rattle.sets.specs.Truth.{_&&_, same, below, choose, check}
+use Rattle.sets.specs.Lists.{every}
+use Rattle.sets.specs.Truth.{_&&_, same}
 use Rattle.sets.specs.TruthLaws.{both-ways, off-by, and-l, and-r, and-mk, and-off-l, same-on, same-mk}
 use Rattle.sets.specs.TruthLaws.{below-not, not-on, le-or}
 use Rattle.calendar.specs.declared.Period.{Period}
@@ -112,7 +112,8 @@ module _ (calendar : List ℕ) where
   unfolding liesInTo
   lies-on kind site day e =
       let w = some-on _ _ e in
-      (periodAt calendar (w .0), record { place = w .0; inside = w .1; found = refl }, and-l _ _ (w .2), and-r _ _ (w .2))
+      let there : In (periodAt calendar (w .0)) calendar = record { place = w .0; inside = w .1; found = refl } in
+      (periodAt calendar (w .0), there, and-l _ _ (w .2), and-r _ _ (w .2))
 
   pub lies-mk : (kind site day : ℕ) (p : Period) → In p calendar → ownOf kind site p ≡ true → lies day p ≡ true
       → liesIn calendar kind site day ≡ true
@@ -144,7 +145,8 @@ pub same-records : (a b : List ℕ) (week : ℕ) → length a % 8 ≡ length b %
     → ((p : Period) → In p a → In p b) → ((p : Period) → In p b → In p a) → weekOf a week ≡ weekOf b week
 same-records a b week e f g =
     week-cong a b week (ap (λ (k : ℕ). same k 0) e)
-    (both-ways _ _ (λ h. formed-mk b (λ p i. formed-on a h p (g p i))) (λ h. formed-mk a (λ p i. formed-on b h p (f p i))))
+    (both-ways _ _ (λ h. formed-mk b (λ p i. formed-on a h p (g p i)))
+    (λ h. formed-mk a (λ p i. formed-on b h p (f p i))))
     (λ site. part-cong a b week site (λ kind i l.
     both-ways _ _ (moved a b f kind site (dayOf week i)) (moved b a g kind site (dayOf week i))))
   where
@@ -169,7 +171,8 @@ order-free x r s y week wx wr ws =
     ))
     (turn r s wr ws) (turn s r ws wr)
   where
-    turn : (r s : List ℕ) → Whole r → Whole s → (p : Period) → In p (x ++ (r ++ (s ++ y))) → In p (x ++ (s ++ (r ++ y)))
+    turn : (r s : List ℕ) → Whole r → Whole s → (p : Period) → In p (x ++ (r ++ (s ++ y)))
+        → In p (x ++ (s ++ (r ++ y)))
     turn r s wr ws p h =
         ⊎-elim (in-left x (s ++ (r ++ y)) wx p)
         (λ i. in-right x (s ++ (r ++ y)) wx p (⊎-elim (λ k. in-right s (r ++ y) ws p (in-left r y wr p k))

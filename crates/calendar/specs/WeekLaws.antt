@@ -1,18 +1,22 @@
 -- What an answer says, of any test of who takes part: n is how many do, each of them and nobody else has a number of 1
--- to n, the two ways are inverse to each other, and sites rise with processes. From the laws of the numbering.
+-- to n, the two ways are inverse to each other, and sites rise with processes; and no other numbering has all of this.
+-- From the laws of the numbering; that there is no other, by going up the processes.
 use mathlib.Core.Path.{_≡_, refl, sym, _∙_, ap}
 use mathlib.Core.Bool.{Bool, true, false}
-use mathlib.Core.Logic.{_⊎_, inl, inr}
+use mathlib.Core.Logic.{_≢_, _⊎_, inl, inr}
 use Prim.Native.Nat.{ℕ, zero, suc, _+_, _-_, _≤_, _<_}
 use native.Mathlib.Omega.{arith}
 use lib.ListN.{length, getD, List·getD-eq-default}
+use lib.Seq.{ext-getD}
 use Rattle.sets.specs.EachLaws.{length-each, getD-each}
 use Rattle.sets.specs.Truth.{oneTo}
-use Rattle.sets.specs.TruthLaws.{choose-on, choose-off, same-mk, one-low, one-high, one-mk, le-or}
+use Rattle.sets.specs.TruthLaws.{Is, is, on, off, choose-on, choose-off, same-mk, one-low, one-high, one-mk}
+use Rattle.sets.specs.TruthLaws.{le-or, eq-or}
 use Rattle.calendar.specs.declared.Numbering.{Numbering}
-use Rattle.calendar.specs.Calendar.{sitesOf, howMany, processOf, siteOf, numberingOf, weekOf, takesPartIn, weekRefusal}
-use Rattle.calendar.specs.Calendar.{answeredBy}
-use Rattle.calendar.specs.NumberingLaws.{sitesTo, length-sites, many-bound, many-on, many-le, Placed, placed, number-one}
+use Rattle.calendar.specs.Calendar.{takesPartIn, sitesOf, howMany, processOf, siteOf, numberingOf, weekRefusal}
+use Rattle.calendar.specs.Calendar.{answeredBy, weekOf}
+use Rattle.calendar.specs.NumberingLaws.{sitesTo, length-sites, many-bound, many-on, many-le, Placed, placed}
+use Rattle.calendar.specs.NumberingLaws.{number-one}
 
 -- the process of a site and the site of a process, as an answer has them; both are numbered from 1
 abbrev pub processIn : Numbering → ℕ → ℕ
@@ -119,6 +123,108 @@ module _ (takes : ℕ → Bool) where
           go : (r ≤ s) ⊎ (s < r) → s < r
           go (inl h) = absurd (omega (arith, many-le takes r s h))
           go (inr h) = h
+
+-- ---- and nothing else does: two numberings of which this holds are one
+
+-- where the sites of the processes below p are the same in both, that of p in x is not below that of p in y: it would
+-- be that of no process in y
+not-less : (takes : ℕ → Bool) (x y : Numbering) → Numbers takes x → Numbers takes y → (p : ℕ) → oneTo (x .n) p ≡ true
+    → ((q : ℕ) → oneTo (x .n) q ≡ true → q < p → siteIn x q ≡ siteIn y q) → siteIn y p ≤ siteIn x p
+not-less takes x y hx hy p e before = go (le-or (siteIn y p) (siteIn x p))
+  where
+    go : (siteIn y p ≤ siteIn x p) ⊎ (siteIn x p < siteIn y p) → siteIn y p ≤ siteIn x p
+    go (inl h) = h
+    go (inr h) = absurd (at (le-or p q))
+      where
+        s : ℕ
+        s = siteIn x p
+
+        q : ℕ
+        q = processIn y s
+
+        in-y : oneTo (y .n) q ≡ true
+        in-y = hy .numbered s (hx .site-part p e .0) (hx .site-part p e .1)
+
+        in-x : oneTo (x .n) q ≡ true
+        in-x = one-mk (x .n) q (one-low (y .n) q in-y) (omega (arith, one-high (y .n) q in-y, hx .many, hy .many))
+
+        back : siteIn y q ≡ s
+        back = hy .site-back s (hx .site-part p e .0) (hx .site-part p e .1)
+
+        at : (p ≤ q) ⊎ (q < p) → ⊥
+        at (inr l) =
+            omega (arith, hx .rises q p (one-low (x .n) q in-x) l (one-high (x .n) p e), before q in-x l, back)
+        at (inl l) = later (eq-or p q)
+          where
+            later : (p ≡ q) ⊎ (p ≢ q) → ⊥
+            later (inl u) = omega (arith, ap (siteIn y) u, back)
+            later (inr d) =
+                omega (arith, hy .rises p q (one-low (x .n) p e) (omega arith) (one-high (y .n) q in-y), back)
+
+module _ (takes : ℕ → Bool) (x y : Numbering) (hx : Numbers takes x) (hy : Numbers takes y) where
+  n-same : x .n ≡ y .n
+  n-same = hx .many ∙ sym (hy .many)
+
+  to-y : (p : ℕ) → oneTo (x .n) p ≡ true → oneTo (y .n) p ≡ true
+  to-y p e = rw n-same at e
+
+  sites-below : (m p : ℕ) → p < m → oneTo (x .n) p ≡ true → siteIn x p ≡ siteIn y p
+  sites-below zero p l e = absurd (omega arith)
+  sites-below (suc m) p l e =
+      let before : (q : ℕ) → oneTo (x .n) q ≡ true → q < p → siteIn x q ≡ siteIn y q =
+      λ q f k. sites-below m q (omega arith) f in
+      omega (
+        arith,
+        not-less takes x y hx hy p e before,
+        not-less takes y x hy hx p (to-y p e) (λ q f k. sym (before q (rw (sym n-same) at f) k)),
+      )
+
+  site-same : (p : ℕ) → oneTo (x .n) p ≡ true → siteIn x p ≡ siteIn y p
+  site-same p e = sites-below (suc p) p (omega arith) e
+
+  process-same : (s : ℕ) → oneTo 16 s ≡ true → processIn x s ≡ processIn y s
+  process-same s e = go (is (takes s))
+    where
+      go : Is (takes s) → processIn x s ≡ processIn y s
+      go (off t) = hx .no-process s e t ∙ sym (hy .no-process s e t)
+      go (on t) =
+          let f = hx .numbered s e t in
+          sym (hy .process-back (processIn x s) (to-y _ f))
+          ∙ ap (processIn y) (sym (site-same (processIn x s) f) ∙ hx .site-back s e t)
+
+  any-site : (p : ℕ) → 1 ≤ p → siteIn x p ≡ siteIn y p
+  any-site p l = go (le-or p (x .n))
+    where
+      go : (p ≤ x .n) ⊎ (x .n < p) → siteIn x p ≡ siteIn y p
+      go (inl h) = site-same p (one-mk (x .n) p l h)
+      go (inr h) = hx .no-site p h ∙ sym (hy .no-site p (omega (arith, n-same)))
+
+-- sixteen entries each way, as the struct has them
+pub record Sixteen (a : Numbering) : Type 0 where
+  pub processes : length (a .«process_of») ≡ 16
+  pub sites : length (a .«site_of») ≡ 16
+
+pub numbering-only : (takes : ℕ → Bool) (x y : Numbering) → Sixteen x → Sixteen y → Numbers takes x → Numbers takes y
+    → x ≡ y
+numbering-only takes x y lx ly hx hy = λ i. record {
+  n = n-same takes x y hx hy i;
+  «process_of» = processes i;
+  «site_of» = sites i;
+}
+  where
+    processes : x .«process_of» ≡ y .«process_of»
+    processes = ext-getD 0 _ _ (lx .processes ∙ sym (ly .processes)) (λ k l.
+        let e : k + 1 - 1 ≡ k = omega arith in
+        let h : oneTo 16 (k + 1) ≡ true = one-mk 16 (k + 1) (omega arith) (omega (arith, lx .processes)) in
+        rw e at (process-same takes x y hx hy (k + 1) h))
+
+    sites : x .«site_of» ≡ y .«site_of»
+    sites = ext-getD 0 _ _ (lx .sites ∙ sym (ly .sites)) (λ k l.
+        let e : k + 1 - 1 ≡ k = omega arith in rw e at (any-site takes x y hx hy (k + 1) (omega arith)))
+
+pub numbering-sixteen : (takes : ℕ → Bool) → Sixteen (numberingOf takes)
+unfolding numberingOf
+numbering-sixteen takes = record { processes = length-each 16 _; sites = length-each 16 _ }
 
 -- so says every answer that is not a refusal
 pub week-numbers : (calendar : _) (week : ℕ) → weekRefusal calendar week ≡ 0

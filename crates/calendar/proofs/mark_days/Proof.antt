@@ -1,10 +1,10 @@
--- `mark_days` marks the days of every record. The loop's invariant: the first j are well formed, and their days marked.
+-- `mark_days` marks the days of every record. The loop's invariant: the first j are well formed, and their days are
+-- marked.
 use mathlib.Core.Path.{_≡_, refl, sym, _∙_, ap}
 use mathlib.Core.Bool.{true, true≢false}
 use Prim.Native.Nat.{_+_, _-_, _/_, _≤_}
 use native.Mathlib.Nat.{le-antisymm}
 use native.Mathlib.Numerals.{add-one}
-use native.Mathlib.Omega.{arith}
 use borrow.Author.Needs.{needs}
 use lib.ListN.{length}
 use Rattle.sets.specs.EveryLaws.{every-off, every-suc}
@@ -18,7 +18,8 @@ use Rattle.calendar.proofs.mark_days.Tie as tie
 
 abbrev Inv-loop : tie.InvT-loop
 Inv-loop calendar monday days₀ records j₀ days j =
-    (j ≤ length calendar / 8) × (every j (λ k. wellFormed (periodAt calendar k)) ≡ true) × Marked calendar monday j days
+    (j ≤ length calendar / 8) × (every j (λ k. wellFormed (periodAt calendar k)) ≡ true)
+    × Marked calendar monday j days
 
 abbrev μ-loop : tie.MeasureT-loop
 μ-loop calendar monday days₀ records j₀ days j = length calendar / 8 - j
@@ -37,7 +38,8 @@ returns : tie.Need-returns Inv-loop μ-loop
 unfolding periodsIn
 returns c =
     let l = c .before .before .before .before .loop in
-    let e = ap wellFormed (sym (c .before .before .period-at .ensures)) ∙ sym (c .before .well-formed .ensures) ∙ not-on _ (c .if1 .taken) in
+    let e = ap wellFormed (sym (c .before .before .period-at .ensures)) ∙ sym (c .before .well-formed .ensures)
+    ∙ not-on _ (c .if1 .taken) in
     (sym (every-off _ _ (l .j) (c .before .before .before .loop-test .taken) e), λ h. absurd (true≢false (sym h)))
 
 slot-of-requires : tie.Need-slot-of-requires Inv-loop μ-loop
@@ -73,7 +75,8 @@ loop-again c =
     let a = b .before .before .before .before .before .args in
     let l = b .before .before .before .loop in
     let r = b .before .period-at .ensures in
-    let f = ap wellFormed (sym r) ∙ sym (b .well-formed .ensures) ∙ not-off _ (c .before .before .before .if1 .left) in (
+    let w = not-off _ (c .before .before .before .if1 .left) in
+    let f = ap wellFormed (sym r) ∙ sym (b .well-formed .ensures) ∙ w in (
       search needs,
       rw add-one (every-suc (l .j) _ (l .inv .1) f),
       rw (add-one, c .union .ensures, c .before .before .slot-of .ensures .0, r)

@@ -1,5 +1,5 @@
 -- The size of the set, the process of each site and the site of each process.
-use mathlib.Core.Path.{refl, _∙_}
+use mathlib.Core.Path.{_∙_}
 use native.Mathlib.Omega.{arith}
 use borrow.Author.Needs.{needs}
 use Rattle.calendar.specs.Calendar.{numberingOf}

@@ -1,5 +1,4 @@
 -- The fields are read and joined as the definition has them.
-use mathlib.Core.Path.{refl}
 use borrow.Author.Needs.{needs}
 use Rattle.calendar.specs.Calendar.{periodAt}
 use Rattle.calendar.proofs.period_at.Statement.{statement}

@@ -1,8 +1,8 @@
 -- `sites` has the site of each process. The loop's invariant: those of the first i sites that take part are stored.
-use mathlib.Core.Path.{_≡_, refl, sym, _∙_, ap}
+use mathlib.Core.Path.{_≡_, sym, _∙_, ap}
 use mathlib.Core.List.{List}
 use mathlib.Core.Logic.{⊎-elim}
-use Prim.Native.Nat.{ℕ, _≤_, _-_, _+_}
+use Prim.Native.Nat.{ℕ, _≤_, _-_}
 use native.Mathlib.Nat.{le-antisymm}
 use native.Mathlib.Numerals.{add-one}
 use native.Mathlib.Omega.{arith}
@@ -10,7 +10,7 @@ use borrow.Author.Needs.{needs}
 use lib.ListN.{replicate}
 use Rattle.sets.specs.Lists.{joined}
 use Rattle.calendar.specs.Calendar.{howMany}
-use Rattle.calendar.specs.NumberingLaws.{inSet, in-set, sitesTo, many-zero, many-on, many-off, many-bound}
+use Rattle.calendar.specs.NumberingLaws.{inSet, in-set, sitesTo, many-zero, many-on, many-off}
 use Rattle.calendar.specs.NumberingLaws.{storedTo, stored-on, stored-off, stored-all}
 use Rattle.calendar.proofs.sites.Statement.{statement}
 use Rattle.calendar.proofs.sites.Tie as tie
@@ -44,7 +44,8 @@ loop-again c =
       ⊎-elim
           (λ w.
           w .1
-          ∙ rw (l .inv .3, l .inv .2) (stored-on t (l .i) zeros (m ∙ w .0 .taken) (omega (arith, l .inv .2, l .inv .1))))
+          ∙ rw (l .inv .3, l .inv .2)
+          (stored-on t (l .i) zeros (m ∙ w .0 .taken) (omega (arith, l .inv .2, l .inv .1))))
           (λ w. w .1 ∙ l .inv .3 ∙ stored-off t (l .i) zeros (m ∙ w .0 .left)) (c .if1 .came),
     )
 

@@ -1,14 +1,10 @@
 -- `week` answers as the definition does: check by check, by what the pass has marked.
-use mathlib.Core.Path.{_≡_, refl, sym, _∙_, ap}
-use mathlib.Core.List.{List}
-use Prim.Native.Nat.{ℕ, _*_, _%_}
-use native.Mathlib.Omega.{arith}
+use mathlib.Core.Path.{sym, _∙_, ap}
 use borrow.Author.Needs.{needs}
-use lib.ListN.{length}
 use Rattle.sets.specs.TruthLaws.{not-on, not-off, same-mk, same-off}
-use Rattle.calendar.specs.Calendar.{periodsIn, takesPartIn, answeredBy}
-use Rattle.calendar.specs.NumberingLaws.{inSet, in-set, numbering-cong}
-use Rattle.calendar.specs.PassLaws.{Marked, part-in, nobody, somebody}
+use Rattle.calendar.specs.Calendar.{answeredBy}
+use Rattle.calendar.specs.NumberingLaws.{in-set, numbering-cong}
+use Rattle.calendar.specs.PassLaws.{part-in, nobody, somebody}
 use Rattle.calendar.specs.RefusalLaws.{partial-13, record-13, nobody-14, answered}
 use Rattle.calendar.proofs.week.Statement.{statement}
 use Rattle.calendar.proofs.week.Tie as tie
@@ -32,8 +28,9 @@ returns-3 c =
     let m = b .before .before in
     let a = m .before .before .before .args in
     let v = not-off _ (b .if2 .left) in
+    let whole = same-mk _ 0 (m .before .if1 .left) in
     c .refused3 .ensures
-    ∙ sym (nobody-14 (a .calendar .now) (a .week) (same-mk _ 0 (m .before .if1 .left)) (sym (m .mark-days .ensures .0) ∙ v)
+    ∙ sym (nobody-14 (a .calendar .now) (a .week) whole (sym (m .mark-days .ensures .0) ∙ v)
     (nobody (a .calendar .now) (a .week) _ (m .mark-days .ensures .1 v) _ (c .before .before .taking-part .ensures)
     (c .before .if3 .taken)))
 
@@ -44,11 +41,12 @@ returns-4 c =
     let m = b .before .before in
     let a = m .before .before .before .args in
     let v = not-off _ (b .if2 .left) in
+    let whole = same-mk _ 0 (m .before .if1 .left) in
     let t = c .before .before .taking-part .ensures in
     let marked = m .mark-days .ensures .1 v in
     ap answeredBy (c .numbered .ensures
     ∙ numbering-cong _ _ (λ i l. sym (in-set _ i) ∙ part-in (a .calendar .now) (a .week) _ marked _ t i l))
-    ∙ sym (answered (a .calendar .now) (a .week) (same-mk _ 0 (m .before .if1 .left)) (sym (m .mark-days .ensures .0) ∙ v)
+    ∙ sym (answered (a .calendar .now) (a .week) whole (sym (m .mark-days .ensures .0) ∙ v)
     (somebody (a .calendar .now) (a .week) _ marked _ t (c .before .if3 .left)))
 
 pub week-spec : {M : Type 1} → statement M

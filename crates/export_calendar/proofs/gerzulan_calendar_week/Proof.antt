@@ -1,6 +1,6 @@
 -- `gerzulan_calendar_week` meets its contract: its code is walked by hand, since the numbering is a struct behind a
--- `&mut`. The borrow is opened, the numbering is read, `host_week`, which is covered, does the work, the new numbering is
--- stored, and the borrow is closed there.
+-- `&mut`. The borrow is opened, the numbering is read, `host_week`, which is covered, does the work, the new numbering
+-- is stored, and the borrow is closed there.
 -- Plain data owns nothing but facts, so it is dropped and made anew from its relation; what the slice owns can be had
 -- twice.
 use mathlib.Core.Path.{_≡_, refl, ap}
@@ -170,11 +170,13 @@ module _ {M : Type 1} (𝓤 : URA M) (H : Heap 𝓤) (A : Atoms 𝓤) (W : Given
       -- the tokens, then what the parameters own, then what the result owns
       move ! (3 ∷ []) $ split ! $ move ! (4 ∷ 1 ∷ []) $ join ! $ move ! (1 ∷ 0 ∷ []) $ join ! $ frame ! $
       feqI ! (List Val) (vptr b o ∷ []) (vptr b o ∷ []) refl $ fjoin3 ! $ nothing ! $
-      move ! (1 ∷ 0 ∷ []) $ fjoin ! $ owned ! u16 (Is u16) (uint-makes 𝓤 H A W w16) week _ (refl, week-fits) $ fjoin ! $
+      move ! (1 ∷ 0 ∷ []) $ fjoin ! $
+      owned ! u16 (Is u16) (uint-makes 𝓤 H A W w16) week _ (refl, week-fits) $ fjoin ! $
       move ! (1 ∷ 0 ∷ []) $ fjoin ! $ frame ! $
       owned ! u32 (Is u32) (uint-makes 𝓤 H A W w32) (r .number) _ (refl, fits) $ done !
 
-  -- ---- the walk. The locals are 0, the result; 1 to 3, the parameters; 4, what the call gives; 5, the numbering read.
+  -- ---- the walk. The locals are 0, the result; 1 to 3, the parameters; 4, what the call gives; 5, the numbering
+  -- read.
   module _ (C : Calls 𝓤 H) (Λ : Loops 𝓤 H) (fm : FmC 𝓤 H (W .laws) C)
       (met : Triple 𝓤 (C #work) (Work 𝓤 H A at-mem exec)) where
     walk : Is Bytes l (v ∷ [])

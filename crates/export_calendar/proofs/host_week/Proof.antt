@@ -1,5 +1,5 @@
 -- By whether the call's answer is 0.
-use mathlib.Core.Path.{_≡_, refl, sym, _∙_, ap}
+use mathlib.Core.Path.{sym, _∙_, ap}
 use borrow.Author.Needs.{needs}
 use Rattle.sets.specs.TruthLaws.{choose-on, choose-off, same-mk, same-off}
 use Rattle.calendar.specs.declared.WeekAnswer.{WeekAnswer}

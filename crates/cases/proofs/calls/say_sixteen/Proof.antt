@@ -1,6 +1,5 @@
 -- `say_sixteen` is safe and ends: it reads each number once. The measure is how many are left.
 use Prim.Native.Nat.{_≤_, _-_}
-use native.Mathlib.Omega.{arith}
 use borrow.Author.Needs.{needs}
 use Rattle.cases.proofs.calls.say_sixteen.Statement.{statement}
 use Rattle.cases.proofs.calls.say_sixteen.Tie as tie

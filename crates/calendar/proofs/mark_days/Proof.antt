@@ -28,12 +28,6 @@ loop-holds : tie.Need-loop-holds Inv-loop μ-loop
 unfolding every
 loop-holds c = (search needs, refl, mark-none _ _)
 
-period-at-requires : tie.Need-period-at-requires Inv-loop μ-loop
-period-at-requires c κs = search needs
-
-well-formed-requires : tie.Need-well-formed-requires Inv-loop μ-loop
-well-formed-requires c κs = search needs
-
 returns : tie.Need-returns Inv-loop μ-loop
 unfolding periodsIn
 returns c =
@@ -44,30 +38,6 @@ returns c =
 
 slot-of-requires : tie.Need-slot-of-requires Inv-loop μ-loop
 slot-of-requires c κs = sym (c .before .well-formed .ensures) ∙ not-off _ (c .if1 .left)
-
-mul-union : tie.Need-mul-union Inv-loop μ-loop
-mul-union c = search needs
-
-array-read-union : tie.Need-array-read-union Inv-loop μ-loop
-array-read-union c = search needs
-
-weekdays-in-requires : tie.Need-weekdays-in-requires Inv-loop μ-loop
-weekdays-in-requires c κs = search needs
-
-union-requires : tie.Need-union-requires Inv-loop μ-loop
-union-requires c κs = search needs
-
-mul-days : tie.Need-mul-days Inv-loop μ-loop
-mul-days c = search needs
-
-array-write-days : tie.Need-array-write-days Inv-loop μ-loop
-array-write-days c = search needs
-
-add-j : tie.Need-add-j Inv-loop μ-loop
-add-j c = search needs
-
-loop-less : tie.Need-loop-less Inv-loop μ-loop
-loop-less c = search needs
 
 loop-again : tie.Need-loop-again Inv-loop μ-loop
 loop-again c =
@@ -91,6 +61,6 @@ returns-2 c =
     (sym (rw e at (c .before .loop .inv .1)), λ h. rw e at (c .before .loop .inv .2))
 
 pub mark-days-spec : {M : Type 1} → statement M
-mark-days-spec = tie.close (tie.spec Inv-loop μ-loop loop-holds period-at-requires well-formed-requires
-    returns slot-of-requires mul-union array-read-union weekdays-in-requires union-requires mul-days array-write-days
-    add-j loop-less loop-again returns-2)
+mark-days-spec = tie.close (tie.spec Inv-loop μ-loop loop-holds (λ c κs. search needs) (λ c κs. search needs) returns
+    slot-of-requires (λ c. search needs) (λ c. search needs) (λ c κs. search needs) (λ c κs. search needs)
+    (λ c. search needs) (λ c. search needs) (λ c. search needs) (λ c. search needs) loop-again returns-2)

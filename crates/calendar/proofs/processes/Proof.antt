@@ -29,18 +29,6 @@ loop-holds : tie.Need-loop-holds Inv-loop μ-loop
 unfolding each
 loop-holds c = (search needs, refl)
 
-process-at-requires : tie.Need-process-at-requires Inv-loop μ-loop
-process-at-requires c κs = search needs
-
-array-write-of : tie.Need-array-write-of Inv-loop μ-loop
-array-write-of c = search needs
-
-add-i : tie.Need-add-i Inv-loop μ-loop
-add-i c = search needs
-
-loop-less : tie.Need-loop-less Inv-loop μ-loop
-loop-less c = search needs
-
 loop-again : tie.Need-loop-again Inv-loop μ-loop
 loop-again c =
     let l = c .before .before .loop in
@@ -57,15 +45,5 @@ returns c =
     rw (le-antisymm (l .inv .0) (c .loop-test .left)) at (l .inv .1) ∙ each-done 16 (number (a .set)) zeros refl
 
 pub processes-spec : {M : Type 1} → statement M
-processes-spec =
-    tie.close
-    (tie.spec
-    Inv-loop
-    μ-loop
-    loop-holds
-    process-at-requires
-    array-write-of
-    add-i
-    loop-less
-    loop-again
-    returns)
+processes-spec = tie.close (tie.spec Inv-loop μ-loop loop-holds (λ c κs. search needs) (λ c. search needs)
+    (λ c. search needs) (λ c. search needs) loop-again returns)

@@ -31,17 +31,18 @@ periodAt calendar j =
       rest = pairOf (getD calendar (8 * j + 6) 0) (getD calendar (8 * j + 7) 0);
     }
 
--- a site 1 to 16, a kind 1 or 2, first day not after last, last bytes zero
-unfoldable pub wellFormed : Period → Bool
-wellFormed p = oneTo 16 (p .site) && (oneTo 2 (p .kind) && (not (below (p .last) (p .first)) && same (p .rest) 0))
-
--- ---- days
-
+-- the kinds
 abbrev pub term : ℕ
 term = 1
 
 abbrev pub closed : ℕ
 closed = 2
+
+-- a site 1 to 16, a kind 1 or 2, first day not after last, last bytes zero
+unfoldable pub wellFormed : Period → Bool
+wellFormed p = oneTo 16 (p .site) && (oneTo 2 (p .kind) && (not (below (p .last) (p .first)) && same (p .rest) 0))
+
+-- ---- days
 
 -- a record of its own: of this kind, for this site
 unfoldable pub ownOf : ℕ → ℕ → Period → Bool
@@ -51,14 +52,10 @@ ownOf kind site p = same (p .kind) kind && same (p .site) site
 unfoldable pub lies : ℕ → Period → Bool
 lies day p = not (below day (p .first)) && not (below (p .last) day)
 
--- the day lies in some record of the kind and site among the first k
-unfoldable pub liesInTo : List ℕ → ℕ → ℕ → ℕ → ℕ → Bool
-liesInTo calendar k kind site day =
-    some k (λ j. ownOf kind site (periodAt calendar j) && lies day (periodAt calendar j))
-
--- in some record of the calendar
-abbrev pub liesIn : List ℕ → ℕ → ℕ → ℕ → Bool
-liesIn calendar kind site day = liesInTo calendar (periodsIn calendar) kind site day
+-- the day lies in some record of the calendar that is of this kind, for this site
+unfoldable pub liesIn : List ℕ → ℕ → ℕ → ℕ → Bool
+liesIn calendar kind site day =
+    some (periodsIn calendar) (λ j. ownOf kind site (periodAt calendar j) && lies day (periodAt calendar j))
 
 -- open on a day: in a term record of its own and in no closed record of its own
 unfoldable pub openOn : List ℕ → ℕ → ℕ → Bool

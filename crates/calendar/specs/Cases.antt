@@ -8,7 +8,7 @@ use lib.ListN.{length, replicate}
 use Rattle.sets.specs.Lists.{each, joined, every, some, count}
 use Rattle.sets.specs.Truth.{_&&_, same, below, oneTo, bit, choose, check}
 use Rattle.calendar.specs.declared.WeekAnswer.{WeekAnswer}
-use Rattle.calendar.specs.Calendar.{pairOf, periodsIn, periodAt, wellFormed, ownOf, lies, liesInTo, openOn}
+use Rattle.calendar.specs.Calendar.{pairOf, periodsIn, periodAt, wellFormed, ownOf, lies, liesIn, openOn}
 use Rattle.calendar.specs.Calendar.{takesPartIn, sitesOf, howMany, processOf, siteOf, numberingOf, noNumbering}
 use Rattle.calendar.specs.Calendar.{weekRefusal, refusedBy, answeredBy, weekOf}
 
@@ -116,6 +116,6 @@ table =
 -- what the definition gives for each, and what is written there
 pub weeks : map (λ c. weekOf (c .calendar) (c .week)) table ≡ map (λ c. c .answer) table
 unfolding weekOf weekRefusal refusedBy answeredBy numberingOf noNumbering processOf siteOf sitesOf howMany takesPartIn
-    openOn liesInTo lies ownOf wellFormed periodAt periodsIn pairOf each joined every some count _&&_ same below oneTo
+    openOn liesIn lies ownOf wellFormed periodAt periodsIn pairOf each joined every some count _&&_ same below oneTo
     bit choose check
 weeks = refl

@@ -18,7 +18,7 @@ use Rattle.sets.specs.TruthLaws.{or-mk-l, or-off-l}
 use Rattle.sets.specs.TruthLaws.{not-on, same-on, same-mk, same-not}
 use Rattle.sets.specs.TruthLaws.{same-off, below-on, below-mk, below-not, below-off, eq-or, one-low, one-high, one-mk}
 use Rattle.calendar.specs.declared.Period.{Period}
-use Rattle.calendar.specs.Calendar.{periodsIn, periodAt, wellFormed, ownOf, lies, liesInTo, openOn, takesPartIn}
+use Rattle.calendar.specs.Calendar.{periodsIn, periodAt, wellFormed, ownOf, lies, liesIn, openOn, takesPartIn}
 
 -- ---- the weekdays of one record: those before its end without those before its beginning
 module _ (monday : ℕ) (p : Period) where
@@ -48,6 +48,11 @@ module _ (monday : ℕ) (p : Period) where
           and-mk _ _ (below-mk i _ (omega arith)) (ap not (below-off i (min (p .first - monday) 5) (omega arith)))
 
 -- ---- what is marked
+
+-- a day lies in one of the first k records that is of a kind, for a site
+unfoldable pub liesInTo : List ℕ → ℕ → ℕ → ℕ → ℕ → Bool
+liesInTo calendar k kind site day =
+    some k (λ j. ownOf kind site (periodAt calendar j) && lies day (periodAt calendar j))
 
 -- where the days of a kind and a site are kept
 abbrev pub slotOf : ℕ → ℕ → ℕ
@@ -223,7 +228,7 @@ module _ (calendar : List ℕ) (week : ℕ) (days : List ℕ)
   open-day : (i d : ℕ) → i < 16
       → has (differenceOf (getD days i 0) (getD days (i + 16) 0)) d
       ≡ (below d 5 && openOn calendar (i + 1) (7 * week + d))
-  unfolding openOn
+  unfolding openOn liesIn liesInTo
   open-day i d l =
       let s : oneTo 16 (i + 1) ≡ true = one-mk 16 (i + 1) (omega arith) (omega arith) in
       let a : slotOf 1 (i + 1) ≡ i = omega arith in

@@ -15,7 +15,7 @@ use Rattle.sets.specs.Truth.{_&&_, same}
 use Rattle.sets.specs.TruthLaws.{both-ways, off-by, and-l, and-r, and-mk, and-off-l, same-on, same-mk}
 use Rattle.sets.specs.TruthLaws.{below-not, not-on, le-or}
 use Rattle.calendar.specs.declared.Period.{Period}
-use Rattle.calendar.specs.Calendar.{pairOf, periodsIn, periodAt, wellFormed, ownOf, lies, liesInTo, liesIn}
+use Rattle.calendar.specs.Calendar.{pairOf, periodsIn, periodAt, wellFormed, ownOf, lies, liesIn}
 use Rattle.calendar.specs.Calendar.{openOn, dayOf, takesPartIn, weekRefusal, refusedBy, weekOf}
 use Rattle.calendar.specs.RefusalLaws.{nobody-14}
 
@@ -109,7 +109,7 @@ module _ (calendar : List ℕ) where
 
   pub lies-on : (kind site day : ℕ) → liesIn calendar kind site day ≡ true
       → (p : Period) × In p calendar × (ownOf kind site p ≡ true) × (lies day p ≡ true)
-  unfolding liesInTo
+  unfolding liesIn
   lies-on kind site day e =
       let w = some-on _ _ e in
       let there : In (periodAt calendar (w .0)) calendar = record { place = w .0; inside = w .1; found = refl } in
@@ -117,7 +117,7 @@ module _ (calendar : List ℕ) where
 
   pub lies-mk : (kind site day : ℕ) (p : Period) → In p calendar → ownOf kind site p ≡ true → lies day p ≡ true
       → liesIn calendar kind site day ≡ true
-  unfolding liesInTo
+  unfolding liesIn
   lies-mk kind site day p h o l =
       some-mk _ _ (h .place) (h .inside)
       (and-mk _ _ (ap (ownOf kind site) (h .found) ∙ o) (ap (lies day) (h .found) ∙ l))

@@ -91,6 +91,9 @@ table =
     -- three sites, in no order and one of them twice
     ∷ case (termOf 9 0 6 ++ (termOf 2 0 6 ++ (fortnight ++ termOf 9 0 6))) 0
     (gives 3 (0 ∷ 1 ∷ 2 ∷ 0 ∷ 0 ∷ 0 ∷ 0 ∷ 0 ∷ 3 ∷ []) (2 ∷ 3 ∷ 9 ∷ []))
+    -- README's calendar
+    ∷ case (termOf 1 7 39 ++ (closedOf 1 21 25 ++ (termOf 4 7 39 ++ termOf 9 25 32))) 3
+    (gives 2 (0 ∷ 0 ∷ 0 ∷ 1 ∷ 0 ∷ 0 ∷ 0 ∷ 0 ∷ 2 ∷ []) (4 ∷ 9 ∷ []))
     ∷ case everybody 0 (gives 16 (each 16 (λ i. i + 1)) (each 16 (λ i. i + 1)))
     -- day 65,535 is the Tuesday of week 9,362; no day of a later week is one of 16 bits
     ∷ case (termOf 3 65535 65535) 9362 third

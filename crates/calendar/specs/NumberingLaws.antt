@@ -5,19 +5,18 @@ use mathlib.Core.Path.{_≡_, refl, sym, _∙_, ap, ap₂}
 use mathlib.Core.Bool.{Bool, true, false}
 use mathlib.Core.List.{List, [], _∷_, _++_, append-assoc, append-nil}
 use mathlib.Core.Logic.{_⊎_, inl, inr, ⊎-elim}
-use Prim.Native.Nat.{ℕ, zero, suc, _+_, _-_, _^_, _≤_, _<_}
+use Prim.Native.Nat.{ℕ, zero, suc, _+_, _-_, _≤_, _<_}
 use native.Mathlib.Numerals.{add-one}
 use native.Mathlib.Omega.{arith}
 use lib.ListN.{length, getD, set, drop, replicate, length-append, length-drop, getD-replicate}
 use lib.ListN.{List·getD-append, List·getD-eq-default}
-use lib.Seq.{getD-at, getD-append-add, getD-drop, drop-cons, set-at}
+use lib.Seq.{getD-at, getD-append-add, getD-drop, drop-cons, set-at, set-getD}
 use Rattle.sets.specs.CountLaws.{count-cong}
-use Rattle.sets.specs.EachLaws.{each-cong, each-getD}
-use Rattle.sets.specs.Laws.{has-all, has-intersection, cut-lt, size-count}
+use Rattle.sets.specs.EachLaws.{length-each, each-step, each-cong, each-getD}
 use Rattle.sets.specs.Lists.{each, joined, count}
-use Rattle.sets.specs.Set.{has, intersectionOf, allOf, sizeOf}
+use Rattle.sets.specs.Set.{has}
 use Rattle.sets.specs.Truth.{bit, choose}
-use Rattle.sets.specs.TruthLaws.{Is, is, on, off, choose-on, choose-off, and-on-r, below-mk, le-or, eq-or}
+use Rattle.sets.specs.TruthLaws.{Is, is, on, off, choose-on, choose-off, le-or, eq-or}
 use Rattle.calendar.specs.Calendar.{sitesOf, howMany, processOf, siteOf, numberingOf}
 
 module _ (takes : ℕ → Bool) where
@@ -175,6 +174,31 @@ module _ (takes : ℕ → Bool) where
           ∙ getD-replicate {A = ℕ} 16 (howMany takes 16 + (k - howMany takes 16)) 0 0 (omega arith)
           ∙ sym (List·getD-eq-default (sitesTo takes 16) 0 (omega (arith, length-sites takes 16)))
 
+-- ---- a loop that stores the process of each site, over noughts
+module _ (takes : ℕ → Bool) where
+  abbrev pub numbersTo : ℕ → List ℕ → List ℕ
+  numbersTo m l = each m (λ i. processOf takes (i + 1)) ++ drop m l
+
+  pub numbers-on : (m : ℕ) (l : List ℕ) → takes (m + 1) ≡ true → m < length l
+      → set (numbersTo m l) m (howMany takes (m + 1)) ≡ numbersTo (m + 1) l
+  unfolding processOf
+  numbers-on m l e h =
+      ap (set (numbersTo m l) m) (sym (choose-on (takes (m + 1)) (howMany takes (m + 1)) 0 e))
+      ∙ each-step 0 m (λ i. processOf takes (i + 1)) l h
+
+  pub numbers-off : (m : ℕ) (l : List ℕ) → takes (m + 1) ≡ false → m < length l → getD l m 0 ≡ 0
+      → numbersTo m l ≡ numbersTo (m + 1) l
+  unfolding processOf
+  numbers-off m l e h z =
+      sym (set-getD (numbersTo m l) m 0)
+      ∙ ap (set (numbersTo m l) m) (there ∙ sym (choose-off (takes (m + 1)) (howMany takes (m + 1)) 0 e))
+      ∙ each-step 0 m (λ i. processOf takes (i + 1)) l h
+    where
+      there : getD (numbersTo m l) m 0 ≡ 0
+      there =
+          rw (drop-cons l m 0 h)
+          (getD-at (each m (λ i. processOf takes (i + 1))) (getD l m 0) _ 0 m (length-each m _) ∙ z)
+
 -- tests that agree on the sites 1 to m have one list of them, and count alike
 module _ (t u : ℕ → Bool) where
   pub sites-cong : (m : ℕ) → ((i : ℕ) → i < m → t (i + 1) ≡ u (i + 1)) → sitesTo t m ≡ sitesTo u m
@@ -197,22 +221,10 @@ module _ (t u : ℕ → Bool) where
     «site_of» = each 16 (λ i. getD (sites-cong 16 h k) (i + 1 - 1) 0);
   }
 
--- ---- of a set of sites, site s at bit s - 1: the size of the set cut after s
+-- ---- of a set of sites, site s at bit s - 1
 abbrev pub inSet : ℕ → ℕ → Bool
 inSet m s = has m (s - 1)
 
 -- site i, from 0, is site i + 1
 pub in-set : (m i : ℕ) → has m i ≡ inSet m (i + 1)
 in-set m i = let e : i + 1 - 1 ≡ i = omega arith in ap (has m) (sym e)
-
-pub size-to : (m k : ℕ) → sizeOf (intersectionOf m (allOf k)) ≡ howMany (inSet m) k
-unfolding howMany
-size-to m k =
-    size-count k _ (cut-lt k m)
-    ∙ count-cong k _ _ (λ i l.
-    has-intersection m (allOf k) i
-    ∙ and-on-r (has m i) (has (allOf k) i) (has-all k i ∙ below-mk i k l) ∙ in-set m i)
-
-pub size-is : (m : ℕ) → m < 2 ^ 16 → sizeOf m ≡ howMany (inSet m) 16
-unfolding howMany
-size-is m h = size-count 16 m h ∙ count-cong 16 _ _ (λ i l. in-set m i)

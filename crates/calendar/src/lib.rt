@@ -6,11 +6,12 @@ ghost use mathlib.Core.Path.{_≡_};
 ghost use mathlib.Core.Bool.{true};
 ghost use Prim.Native.Nat.{ℕ, _+_, _-_, _/_, _<_, _≤_, min};
 ghost use lib.ListN.{length};
-ghost use Rattle.sets.specs.Lists.{each, every};
+ghost use Rattle.sets.specs.Lists.{every};
 ghost use Rattle.sets.specs.Set.{has};
 ghost use Rattle.sets.specs.Truth.{_&&_, below};
 ghost use Rattle.calendar.specs.Calendar.{pairOf, periodsIn, periodAt, wellFormed, lies};
-ghost use Rattle.calendar.specs.Calendar.{processOf, siteOf, numberingOf, refusedBy, weekOf};
+ghost use Rattle.calendar.specs.Calendar.{numberingOf, refusedBy, weekOf};
+ghost use Rattle.calendar.specs.NumberingLaws.{inSet};
 ghost use Rattle.calendar.specs.PassLaws.{slotOf, Marked, Collected, someDay};
 
 // A record: the days on which a site has term (kind 1) or is closed (kind 2). The last two bytes are to be 0.
@@ -139,55 +140,25 @@ fn taking_part(days: [u16; 32]) -> u16
     set
 }
 
-// The process of site i, from 0, where `set` has the sites that take part: how many of them come up to it.
-fn process_at(set: u16, i: usize) -> u8
-    requires { ⌜ i < 16 ⌝ }
-    ensures { λ r. ⌜ r ≡ processOf (λ s. has set (s - 1)) (i + 1) ⌝ }
+// The numbering of a set of sites, site s at bit s - 1, in rising number.
+fn numbered(set: u16) -> Numbering
+    ensures { λ r. ⌜ r ≡ numberingOf (inSet set) ⌝ }
 {
-    if member(set, i) {
-        sets::size(sets::intersection(set, sets::all(i + 1))) as u8
-    } else {
-        0
-    }
-}
-
-// The process of each site.
-fn processes(set: u16) -> [u8; 16]
-    ensures { λ r. ⌜ r ≡ each 16 (λ i. processOf (λ s. has set (s - 1)) (i + 1)) ⌝ }
-{
-    let mut of: [u8; 16] = [0; 16];
-    let mut i = 0;
-    while i < 16 {
-        of[i] = process_at(set, i);
-        i += 1;
-    }
-    of
-}
-
-// The site of each process.
-fn sites(set: u16) -> [u8; 16]
-    ensures { λ r. ⌜ r ≡ each 16 (λ i. siteOf (λ s. has set (s - 1)) (i + 1)) ⌝ }
-{
-    let mut of: [u8; 16] = [0; 16];
+    let mut process_of: [u8; 16] = [0; 16];
+    let mut site_of: [u8; 16] = [0; 16];
     let mut n = 0;
     let mut i = 0;
     while i < 16 {
-        if member(set, i) {
-            of[n] = (i + 1) as u8;
+        let site = i + 1;
+        if member(set, site - 1) {
+            site_of[n] = site as u8;
             n += 1;
+            process_of[site - 1] = n as u8;
         }
         i += 1;
     }
-    of
-}
-
-fn numbered(set: u16) -> Numbering
-    ensures { λ r. ⌜ r ≡ numberingOf (λ s. has set (s - 1)) ⌝ }
-{
-    let process_of = processes(set);
-    let site_of = sites(set);
     Numbering {
-        n: sets::size(set) as u8,
+        n: n as u8,
         process_of,
         site_of,
     }

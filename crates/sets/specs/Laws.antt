@@ -207,11 +207,6 @@ pub intersection-lt : (n a b : ℕ) → a < 2 ^ n → intersectionOf a b < 2 ^ n
 unfolding intersectionOf
 intersection-lt n a b ha = omega (arith, and-le-l a b)
 
--- a set cut at n
-pub cut-lt : (n a : ℕ) → intersectionOf a (allOf n) < 2 ^ n
-unfolding intersectionOf
-cut-lt n a = omega (arith, and-le-r a (allOf n), all-lt n)
-
 pub difference-lt : (n a b : ℕ) → a < 2 ^ n → differenceOf a b < 2 ^ n
 unfolding differenceOf
 difference-lt n a b ha = xor-lt n a (bitAnd a b) ha (omega (arith, and-le-l a b))
@@ -227,7 +222,7 @@ remove-lt n m i hm = difference-lt n m (2 ^ i) hm
 -- a set with no member past n is below 2 ^ n: it is its own part below n
 pub members-low : (n m : ℕ) → m < 2 ^ 16 → ((i : ℕ) → i < 16 → has m i ≡ true → i < n) → m < 2 ^ n
 unfolding intersectionOf
-members-low n m hm h = rw e (cut-lt n m)
+members-low n m hm h = rw e (omega (arith, and-le-r m (allOf n), all-lt n))
   where
     part : (i : ℕ) → Is (has m i) → i < 16 → has m i ≡ (has m i && below i n)
     part i (on t) l = sym (and-on-r (has m i) (below i n) (below-mk i n (h i l t)))

@@ -1,6 +1,5 @@
--- What the numbering means, for any test of who takes part: sites rise with processes, the two ways are inverse to
--- each other, and each site that takes part has a number. By induction along the sites: the list of those up to m has
--- as many entries as take part, and each stands at its own number.
+-- The list of those who take part and how many they are, for any test: by induction along the sites, the list of those
+-- up to m has as many entries as take part, and each stands at its own number. Then what a loop over the sites stores.
 use mathlib.Core.Path.{_≡_, refl, sym, _∙_, ap, ap₂}
 use mathlib.Core.Bool.{Bool, true, false}
 use mathlib.Core.List.{List, [], _∷_, _++_, append-assoc, append-nil}

@@ -1,6 +1,6 @@
 /* The header against the library: the layout, document 01's case 4 by every call, closings of other cases, the order
- * of the list in transit, standing values in a total, and a byte in `decided`. Prints `ok`, or the line that failed.
- * C11 and C++11. */
+ * of the list in transit, standing values in a total, a byte in `decided`, and weeks of a calendar. Prints `ok`, or
+ * the line that failed. C11 and C++11. */
 #include "gerzulan.h"
 
 #include <assert.h>
@@ -15,6 +15,9 @@ static_assert(offsetof(struct gerzulan_process, previous) == 2, "previous");
 static_assert(offsetof(struct gerzulan_progress, closing) == 4, "closing");
 static_assert(offsetof(struct gerzulan_progress, taken) == 8, "taken");
 static_assert(sizeof(struct gerzulan_progress) == 16, "progress");
+static_assert(offsetof(struct gerzulan_week, process_of) == 1, "process_of");
+static_assert(offsetof(struct gerzulan_week, site_of) == 17, "site_of");
+static_assert(sizeof(struct gerzulan_week) == 33, "week");
 
 #define CHECK(fact) \
     if (!(fact)) { \
@@ -230,9 +233,52 @@ static int decided_byte(void) {
     return 0;
 }
 
+/* One week of a calendar. Gives whether the answer is as expected, and also every byte of the week: `expected`, or
+ * untouched where the answer is not 0. */
+static int week_is(const uint8_t *calendar, size_t length, uint16_t number, uint32_t answer, const uint8_t *expected) {
+    struct gerzulan_week week;
+    uint8_t bytes[33];
+    memset(bytes, 0xA5, sizeof bytes);
+    memcpy(&week, bytes, sizeof week);
+    if (gerzulan_calendar_week(calendar, length, number, &week) != answer) {
+        return 0;
+    }
+    return memcmp(&week, answer == 0 ? expected : bytes, sizeof week) == 0;
+}
+
+/* Site 7 is closed in week 42, days 294 to 300, and has term up to its Friday; site 9 has the weekend before it, and
+ * site 3 the Friday before that; site 16 has all days, of which the last is Tuesday of week 9362. */
+static int calendar(void) {
+    static const uint8_t records[5][8] = {
+        {7, 2, 0x26, 1, 0x2C, 1}, {7, 1, 0, 0, 0x2A, 1}, {9, 1, 0x24, 1, 0x25, 1}, {3, 1, 0x23, 1, 0x23, 1},
+        {16, 1, 0, 0, 0xFF, 0xFF},
+    };
+    static const uint8_t faulty[7][8] = {
+        {0, 1}, {17, 1}, {3, 0}, {3, 3}, {3, 1, 0x23, 1, 0x22, 1}, {3, 1, 0, 0, 0, 0, 1, 0}, {3, 1, 0, 0, 0, 0, 0, 1},
+    };
+    static const uint8_t three[33] = {3, 0, 0, 1, 0, 0, 0, 2, 0, 0, 0, 0, 0, 0, 0, 0, 3, 3, 7, 16};
+    static const uint8_t only_7[33] = {1, 0, 0, 0, 0, 0, 0, 1, 0, 0, 0, 0, 0, 0, 0, 0, 0, 7};
+    static const uint8_t only_16[33] = {1, 0, 0, 0, 0, 0, 0, 0, 0, 0, 0, 0, 0, 0, 0, 0, 1, 16};
+    const uint8_t *bytes = records[0];
+    CHECK(week_is(bytes, 40, 41, 0, three) && week_is(bytes, 32, 40, 0, only_7));
+    CHECK(week_is(bytes, 40, 42, 0, only_16) && week_is(bytes, 40, 9362, 0, only_16));
+    CHECK(week_is(bytes, 32, 42, 14, NULL) && week_is(bytes, 0, 41, 14, NULL));
+    CHECK(week_is(bytes, 40, 9363, 14, NULL) && week_is(bytes, 40, UINT16_MAX, 14, NULL));
+    for (size_t length = 1; length < 40; length++) {
+        CHECK(length % 8 == 0 || (week_is(bytes, length, 41, 13, NULL) && week_is(bytes, length, 9363, 13, NULL)));
+    }
+    for (int i = 0; i < 35; i++) {
+        uint8_t one_faulty[5][8];
+        memcpy(one_faulty, records, sizeof records);
+        memcpy(one_faulty[i / 7], faulty[i % 7], 8);
+        CHECK(week_is(one_faulty[0], 40, 41, 13, NULL) && week_is(one_faulty[0], 40, 9363, 13, NULL));
+    }
+    return 0;
+}
+
 int main(void) {
     if (one_by_one() || by_runs() || agreed() || last_round() || list_in_order() || reads() || totals() ||
-        decided_byte()) {
+        decided_byte() || calendar()) {
         return 1;
     }
     puts("ok");

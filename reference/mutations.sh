@@ -240,3 +240,58 @@ try bytes-past-the-list-cleared src/read.rs "$room" \
 try short-slice-before-damage src/read.rs \
     'pub fn list_in_transit(&self, out: &mut [u8]) -> Result<usize, Refusal> {' \
     'pub fn list_in_transit(&self, out: &mut [u8]) -> Result<usize, Refusal> { let bits: u32 = self.in_transit.iter().map(|set| set.count_ones()).sum(); if !self.is_sound() && out.len() < 3 * bits as usize { return Err(Refusal::Slice); }'
+
+# The calendar.
+has='self.first as u32 <= day && day <= self.last as u32'
+try last-day-left-out src/calendar.rs "$has" 'self.first as u32 <= day && day < self.last as u32'
+try first-day-left-out src/calendar.rs "$has" '(self.first as u32) < day && day <= self.last as u32'
+working='const WORKING_DAYS: usize = 5;'
+try saturday-counted src/calendar.rs "$working" 'const WORKING_DAYS: usize = 6;'
+try friday-left-out src/calendar.rs "$working" 'const WORKING_DAYS: usize = 4;'
+try monday-left-out src/calendar.rs \
+    'self.0.iter().any(|day| day.is_open())' 'self.0.iter().skip(1).any(|day| day.is_open())'
+try open-all-week src/calendar.rs \
+    'self.0.iter().any(|day| day.is_open())' 'self.0.iter().all(|day| day.is_open())'
+try a-closed-day-shuts-the-week src/calendar.rs \
+    'self.0.iter().any(|day| day.is_open())' \
+    'self.0.iter().any(|day| day.is_open()) && !self.0.iter().any(|day| day.closed)'
+try closed-ignored src/calendar.rs 'self.in_term && !self.closed' 'self.in_term'
+try open-unless-closed src/calendar.rs 'self.in_term && !self.closed' '!self.closed'
+try later-term-opens src/calendar.rs \
+    'day.in_term |= has & (entry.kind == Kind::Term);' \
+    'day.in_term |= has & (entry.kind == Kind::Term); day.closed &= !(has & (entry.kind == Kind::Term));'
+try closed-only-after-its-term src/calendar.rs \
+    'day.closed |= has & (entry.kind == Kind::Closed);' 'day.closed |= has & day.in_term & (entry.kind == Kind::Closed);'
+try closed-shuts-every-site src/calendar.rs \
+    'sites[entry.site as usize - 1].note(entry, week);' \
+    'match entry.kind { Kind::Term => sites[entry.site as usize - 1].note(entry, week), Kind::Closed => sites.iter_mut().for_each(|site| site.note(entry, week)) }'
+try days-high-byte-first src/calendar.rs \
+    'let (first, last) = (u16::from_le_bytes([f0, f1]), u16::from_le_bytes([l0, l1]));' \
+    'let (first, last) = (u16::from_be_bytes([f0, f1]), u16::from_be_bytes([l0, l1]));'
+try day-of-16-bits src/calendar.rs \
+    'let has = entry.has(7 * week as u32 + i as u32);' \
+    'let has = entry.has(7u16.wrapping_mul(week).wrapping_add(i as u16) as u32);'
+try numbering-falls src/calendar.rs 'for site in 1..=SITES {' 'for site in (1..=SITES).rev() {'
+try processes-by-process src/calendar.rs \
+    'self.process_of[site - 1] = self.n;' 'self.process_of[self.n as usize - 1] = self.n;'
+try site-as-process src/calendar.rs 'self.process_of[site - 1] = self.n;' 'self.process_of[site - 1] = site as u8;'
+read='let entry = Entry::read(bytes).map_err(|_| Refusal::Calendar)?;'
+try fourteen-before-thirteen src/calendar.rs \
+    'pub fn week(calendar: &[u8], week: u16) -> Result<Week, Refusal> {' \
+    'pub fn week(calendar: &[u8], week: u16) -> Result<Week, Refusal> { let good: Vec<u8> = calendar.chunks(RECORD).filter(|x| Entry::read(x).is_ok()).flatten().copied().collect(); if good.len() < calendar.len() { self::week(&good, week)?; }'
+try only-the-weeks-records-checked src/calendar.rs "$read" \
+    'let day = |i: usize| bytes.get(i).map_or(0, |&low| low as u32) + 256 * bytes.get(i + 1).map_or(0, |&high| high as u32); if day(2) > 7 * week as u32 + 6 || day(4) < 7 * week as u32 { continue; } let entry = Entry::read(bytes).map_err(|_| Refusal::Calendar)?;'
+try faulty-records-passed-over src/calendar.rs "$read" 'let Ok(entry) = Entry::read(bytes) else { continue };'
+try checked-until-all-take-part src/calendar.rs "$read" \
+    'if sites.iter().all(|site| site.takes_part()) { break; } let entry = Entry::read(bytes).map_err(|_| Refusal::Calendar)?;'
+try partial-record-passed-over src/calendar.rs \
+    'for bytes in calendar.chunks(RECORD) {' 'for bytes in calendar.chunks_exact(RECORD) {'
+try last-bytes-not-looked-at src/calendar.rs 'if z0 != 0 || z1 != 0 {' 'if false && z0 != z1 {'
+try one-last-byte-looked-at src/calendar.rs 'if z0 != 0 || z1 != 0 {' 'let _ = z1; if z0 != 0 {'
+try last-bytes-that-cancel src/calendar.rs 'if z0 != 0 || z1 != 0 {' 'if z0 != z1 {'
+try first-equal-to-last-refused src/calendar.rs 'if first > last {' 'if first >= last {'
+try first-after-last-accepted src/calendar.rs 'if first > last {' 'if false {'
+try site-17-accepted src/calendar.rs \
+    'if site < 1 || site > SITES as u8 {' 'let site = if site == 17 { 16 } else { site }; if site < 1 || site > SITES as u8 {'
+try another-kind-is-closed src/calendar.rs '_ => return Err(Fault::Kind),' '_ => Kind::Closed,'
+try no-site-accepted src/calendar.rs 'if bench.n == 0 {' 'if false {'

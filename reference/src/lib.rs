@@ -1,13 +1,20 @@
-//! The protocol bench: n processes, the network and a failure detector, stepped by records.
+//! The protocol bench: n processes, the network and a failure detector, stepped by records; and the calendar, which
+//! says whose processes are on the bench of a week.
 //!
 //! The state is the plain `repr(C)` layout of `layout`, changed in place.
 
 pub mod aggregates;
+pub mod calendar;
+pub mod calendar_text;
+pub mod calendars;
 pub mod check;
 pub mod closing;
 #[cfg(feature = "proved")]
 pub mod compare;
+#[cfg(feature = "proved")]
+pub mod compare_calendars;
 pub mod counters;
+pub mod date;
 pub mod explore;
 pub mod gen;
 pub mod kinds;

@@ -3,6 +3,7 @@
 //! No call asks anything of its input but that it is what its type says. A call gives 0 or the number of its refusal;
 //! what is lent is untouched where it refuses, but for the tally, a closing and a run's progress.
 
+use crate::calendar::Week;
 use crate::{Bench, Cause, Counters};
 use std::mem::{offset_of, size_of};
 
@@ -17,6 +18,8 @@ pub struct Progress {
 
 const _: () = assert!(offset_of!(Progress, closing) == 4 && offset_of!(Progress, taken) == 8);
 const _: () = assert!(size_of::<Progress>() == 16);
+const _: () = assert!(offset_of!(Week, process_of) == 1 && offset_of!(Week, site_of) == 17);
+const _: () = assert!(size_of::<Week>() == Week::BYTES);
 
 /// No closing has this number: where it comes back, the call has not written.
 const UNWRITTEN: u8 = 0xa5;
@@ -26,6 +29,7 @@ const UNWRITTEN_PROGRESS: Progress =
 /// A slice passes as a pointer and a length.
 mod library {
     use super::Progress;
+    use crate::calendar::Week;
     use crate::{Bench, Counters};
 
     extern "C" {
@@ -73,6 +77,7 @@ mod library {
             standing: u32,
             difference: &mut i64,
         ) -> u32;
+        pub fn gerzulan_calendar_week(calendar: *const u8, length: usize, week: u16, out: &mut Week) -> u32;
     }
 }
 
@@ -152,4 +157,10 @@ pub fn change(n: u8, entries: &[u32], marks: u16, process: u8, standing: u32, di
     unsafe {
         library::gerzulan_change(n, entries.as_ptr(), entries.len(), marks, process, standing, difference)
     }
+}
+
+/// Writes the bench of a week; refused, `out` stays.
+pub fn calendar_week(calendar: &[u8], week: u16, out: &mut Week) -> u32 {
+    // SAFETY: the struct has the library's layout; the slice is passed whole.
+    unsafe { library::gerzulan_calendar_week(calendar.as_ptr(), calendar.len(), week, out) }
 }

@@ -28,6 +28,10 @@ pub enum Refusal {
     Undecided = 11,
     /// The aggregate needs an entry that is absent.
     Absent = 12,
+    /// A faulty record in a calendar.
+    Calendar = 13,
+    /// A week in which no site takes part.
+    NoSite = 14,
 }
 
 impl Refusal {

@@ -20,6 +20,20 @@ impl std::fmt::Display for TextError {
     }
 }
 
+/// The text that these bytes are.
+pub fn read(bytes: &[u8]) -> Result<&str, TextError> {
+    std::str::from_utf8(bytes).map_err(|error| {
+        let line = bytes[..error.valid_up_to()].iter().filter(|&&b| b == b'\n').count() + 1;
+        TextError { line, reason: "not UTF-8 text".into() }
+    })
+}
+
+/// The words of a line without its comment.
+pub fn words(line: &str) -> Vec<&str> {
+    let content = line.split('#').next().unwrap_or("");
+    content.split_whitespace().collect()
+}
+
 /// The bytes of a text.
 pub fn encode(text: &str) -> Result<Vec<u8>, TextError> {
     let mut bytes = Vec::new();
@@ -36,8 +50,7 @@ pub fn encode(text: &str) -> Result<Vec<u8>, TextError> {
 
 /// The record of a line, if it has one.
 fn encode_line(line: &str) -> Result<Option<Vec<u8>>, String> {
-    let content = line.split('#').next().unwrap_or("");
-    let words: Vec<&str> = content.split_whitespace().collect();
+    let words = words(line);
     let Some((&verb, fields)) = words.split_first() else { return Ok(None) };
     if verb == "bytes" {
         return hexadecimal(fields).map(Some);
@@ -73,7 +86,7 @@ fn wrong_form(verb: &str) -> String {
     format!("expected: {form}")
 }
 
-fn number(name: &str, word: &str) -> Result<u32, String> {
+pub fn number(name: &str, word: &str) -> Result<u32, String> {
     let digits = word.bytes().all(|c| c.is_ascii_digit());
     let parsed = word.parse().ok().filter(|_| digits);
     parsed.ok_or_else(|| format!("{name} `{word}` is not a number from 0 to {}", u32::MAX))
@@ -178,6 +191,13 @@ mod tests {
 
     fn error(text: &str) -> String {
         encode(text).unwrap_err().to_string()
+    }
+
+    #[test]
+    fn bytes_that_are_no_text() {
+        assert_eq!(read("close 1".as_bytes()), Ok("close 1"));
+        let reason = read(b"close 1\n\nstop \xff").unwrap_err().to_string();
+        assert_eq!(reason, "line 3: not UTF-8 text");
     }
 
     #[test]

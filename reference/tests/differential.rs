@@ -1,10 +1,12 @@
 //! The proved library against the reference. SEED sets the seed, which a failure names; `soak` goes on for longer.
 
 use reference::compare::{decided_bytes, everything};
+use reference::compare_calendars::{calendars, every_week};
 use reference::listed::OTHER;
 
 const SCHEDULES: u64 = 2;
 const RECORDS: u64 = 200_000;
+const CALENDARS: u64 = 60_000;
 
 fn seed() -> u64 {
     std::env::var("SEED").map_or(1, |seed| seed.parse().expect("a number"))
@@ -36,4 +38,16 @@ fn they_agree_on_every_byte_in_decided() {
         met.bytes.report()
     );
     assert!(met.bytes.missing().is_empty(), "bytes not met: {:?}", met.bytes.missing());
+}
+
+#[test]
+fn they_agree_on_calendars() {
+    let seed = seed();
+    let met = calendars(seed, CALENDARS);
+    println!("seed {seed}: {}", met.report());
+    assert!(met.missing().is_empty(), "calendars not met: {:?}", met.missing());
+    let [accepted, faulty, shut] = every_week(seed).answers;
+    println!("seed {seed}: every week twice, {accepted} accepted; refusals 13: {faulty}, 14: {shut}");
+    // Up to week 9,362; one record of each later week has its first day at 16 bits, and it is no day of that week.
+    assert_eq!((accepted, faulty, shut), (2 * 9363, 0, 2 * (65_536 - 9363)));
 }

@@ -1,6 +1,7 @@
 //! The proved library's speed beside the reference's, in one run: times alternate, and medians are compared.
 //! `bench [repeats]`. The ratio is the proved library's time over the reference's.
 
+use reference::calendar::{self, Entry, Kind, Week};
 use reference::gen::{schedule, schedule_without_crashes, Rng};
 use reference::{gen, proved, Bench, Cause, Counters};
 use std::hint::black_box;
@@ -25,6 +26,9 @@ fn main() {
         steps(n, repeats);
     }
     soundness(repeats);
+    for near in [false, true] {
+        calendars(near, repeats);
+    }
     program();
 }
 
@@ -88,6 +92,38 @@ fn soundness(repeats: usize) {
         || (0..TIMES).for_each(|_| assert_eq!(proved::run(black_box(&mut bench), &[], 0).0, Cause::Done));
     let plain = || (0..TIMES).for_each(|_| assert!(black_box(&other).is_sound()));
     report("soundness, and the state copied", TIMES, repeats, ours, plain);
+}
+
+const WEEK: u16 = 1000;
+
+/// A week of a million records: with any days, or nearly all with a day of the week.
+fn calendars(near: bool, repeats: usize) {
+    let calendar = million_entries(near);
+    let ours = || {
+        let mut week = Week::default();
+        assert_eq!(proved::calendar_week(black_box(&calendar), WEEK, &mut week), 0);
+        week
+    };
+    let plain = || calendar::week(black_box(&calendar), WEEK).expect("site 16 takes part");
+    assert_eq!(ours(), plain());
+    let kind = if near { "in the week" } else { "any days" };
+    let name = format!("calendar, a million, {kind}");
+    let timed = |week: &dyn Fn() -> Week| assert!(week().n > 0);
+    report(&name, MILLION, repeats, || timed(&ours), || timed(&plain));
+}
+
+/// Any sites and kinds, but site 16 is never closed, so that the week is not refused.
+fn million_entries(near: bool) -> Vec<u8> {
+    let mut rng = Rng::new(1);
+    let entry = |_| {
+        let site = 1 + rng.below(16) as u8;
+        let kind = if site < 16 && rng.percent(50) { Kind::Closed } else { Kind::Term };
+        let any = [rng.draw() as u16, rng.draw() as u16];
+        let close = |day: u16| 7 * WEEK + day % 5;
+        let [x, y] = if near && !rng.percent(1) { any.map(close) } else { any };
+        Entry { site, kind, first: x.min(y), last: x.max(y) }
+    };
+    (0..MILLION).map(entry).flat_map(Entry::bytes).collect()
 }
 
 fn report(name: &str, things: usize, repeats: usize, mut ours: impl FnMut(), mut plain: impl FnMut()) {

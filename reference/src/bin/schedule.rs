@@ -29,13 +29,5 @@ fn convert(change: impl Fn(&[u8]) -> Result<Vec<u8>, String>) -> Result<(), Stri
 }
 
 fn encode(bytes: &[u8]) -> Result<Vec<u8>, String> {
-    match std::str::from_utf8(bytes) {
-        Ok(text) => text::encode(text).map_err(|e| e.to_string()),
-        Err(error) => Err(not_text(bytes, error.valid_up_to())),
-    }
-}
-
-fn not_text(bytes: &[u8], place: usize) -> String {
-    let line = bytes[..place].iter().filter(|&&b| b == b'\n').count() + 1;
-    format!("line {line}: not UTF-8 text")
+    text::read(bytes).and_then(text::encode).map_err(|error| error.to_string())
 }

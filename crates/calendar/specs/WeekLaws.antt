@@ -3,15 +3,17 @@
 -- From the laws of the numbering; that there is no other, by going up the processes.
 use mathlib.Core.Path.{_≡_, refl, sym, _∙_, ap}
 use mathlib.Core.Bool.{Bool, true, false}
+use mathlib.Core.List.{List}
 use mathlib.Core.Logic.{_≢_, _⊎_, inl, inr}
 use Prim.Native.Nat.{ℕ, zero, suc, _+_, _-_, _≤_, _<_}
 use native.Mathlib.Omega.{arith}
 use lib.ListN.{length, getD, List·getD-eq-default}
 use lib.Seq.{ext-getD}
 use Rattle.sets.specs.EachLaws.{length-each, getD-each}
+use Rattle.sets.specs.EveryLaws.{some-on}
 use Rattle.sets.specs.Truth.{oneTo}
 use Rattle.sets.specs.TruthLaws.{Is, is, on, off, choose-on, choose-off, same-mk, one-low, one-high, one-mk}
-use Rattle.sets.specs.TruthLaws.{le-or, eq-or}
+use Rattle.sets.specs.TruthLaws.{le-or, eq-or, check-zero}
 use Rattle.calendar.specs.declared.Numbering.{Numbering}
 use Rattle.calendar.specs.Calendar.{takesPartIn, sitesOf, howMany, processOf, siteOf, numberingOf, weekRefusal}
 use Rattle.calendar.specs.Calendar.{answeredBy, weekOf}
@@ -71,7 +73,7 @@ module _ (takes : ℕ → Bool) where
       rw (site-is p (one-low (a .n) p e) (omega (arith, one-high (a .n) p e, n-low)))
       (placed takes 16 (p - 1) (omega (arith, one-low (a .n) p e, one-high (a .n) p e, n-is)))
 
-  -- a site that takes part is at least the first of them, and at most the last
+  -- a site that takes part is at least the first of them
   number-low : (s : ℕ) → 1 ≤ s → takes s ≡ true → 1 ≤ howMany takes s
   number-low (suc s) l t =
       let e : suc s ≡ s + 1 = omega arith in omega (arith, many-on takes s (ap takes (sym e) ∙ t))
@@ -226,11 +228,24 @@ pub numbering-sixteen : (takes : ℕ → Bool) → Sixteen (numberingOf takes)
 unfolding numberingOf
 numbering-sixteen takes = record { processes = length-each 16 _; sites = length-each 16 _ }
 
--- so says every answer that is not a refusal
-pub week-numbers : (calendar : _) (week : ℕ) → weekRefusal calendar week ≡ 0
+-- so it is of every answer that is not a refusal
+pub week-numbers : (calendar : List ℕ) (week : ℕ) → weekRefusal calendar week ≡ 0
     → Numbers (takesPartIn calendar week) (weekOf calendar week .numbering)
 unfolding weekOf answeredBy
 week-numbers calendar week e =
     let w : weekOf calendar week ≡ answeredBy (numberingOf (takesPartIn calendar week)) =
     choose-on _ _ _ (same-mk _ 0 e) in
     rw w (numbering-is (takesPartIn calendar week))
+
+-- and its n is 1 to 16, as a bench asks: a bench of the week opens with any t below n
+pub week-size : (calendar : List ℕ) (week : ℕ) → weekRefusal calendar week ≡ 0
+    → oneTo 16 (weekOf calendar week .numbering .n) ≡ true
+unfolding weekRefusal
+week-size calendar week e =
+    let a = check-zero _ 13 _ (omega arith) e in
+    let b = check-zero _ 13 _ (omega arith) (a .1) in
+    let w = some-on 16 _ (check-zero _ 14 _ (omega arith) (b .1) .0) in
+    let h = week-numbers calendar week e in
+    let p = h .numbered (w .0 + 1) (one-mk 16 (w .0 + 1) (omega arith) (omega (arith, w .1))) (w .2) in
+    one-mk 16 _ (omega (arith, one-low _ _ p, one-high _ _ p))
+    (omega (arith, h .many, many-bound (takesPartIn calendar week) 16))

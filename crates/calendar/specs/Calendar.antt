@@ -52,10 +52,13 @@ ownOf kind site p = same (p .kind) kind && same (p .site) site
 unfoldable pub lies : ℕ → Period → Bool
 lies day p = not (below day (p .first)) && not (below (p .last) day)
 
--- the day lies in some record of the calendar that is of this kind, for this site
+-- both: the day lies in a record of its own
+abbrev pub hasDay : ℕ → ℕ → ℕ → Period → Bool
+hasDay kind site day p = ownOf kind site p && lies day p
+
+-- some record of the calendar is such a one
 unfoldable pub liesIn : List ℕ → ℕ → ℕ → ℕ → Bool
-liesIn calendar kind site day =
-    some (periodsIn calendar) (λ j. ownOf kind site (periodAt calendar j) && lies day (periodAt calendar j))
+liesIn calendar kind site day = some (periodsIn calendar) (λ j. hasDay kind site day (periodAt calendar j))
 
 -- open on a day: in a term record of its own and in no closed record of its own
 unfoldable pub openOn : List ℕ → ℕ → ℕ → Bool
@@ -71,11 +74,11 @@ takesPartIn calendar week site = some 5 (λ i. openOn calendar site (dayOf week 
 
 -- ---- the numbering of those sites of 1 to 16 that take part
 
--- they, in rising number
-unfoldable pub sitesOf : (ℕ → Bool) → List ℕ
-sitesOf takes = joined 16 (λ i. choose (takes (i + 1)) ((i + 1) ∷ []) [])
+-- those of the sites 1 to s, in rising number
+unfoldable pub sitesTo : (ℕ → Bool) → ℕ → List ℕ
+sitesTo takes s = joined s (λ i. choose (takes (i + 1)) ((i + 1) ∷ []) [])
 
--- how many of the sites 1 to s take part
+-- how many they are
 unfoldable pub howMany : (ℕ → Bool) → ℕ → ℕ
 howMany takes s = count s (λ i. takes (i + 1))
 
@@ -83,9 +86,9 @@ howMany takes s = count s (λ i. takes (i + 1))
 unfoldable pub processOf : (ℕ → Bool) → ℕ → ℕ
 processOf takes site = choose (takes site) (howMany takes site) 0
 
--- the site of a process, by that list; 0 for none
+-- the site of a process, by the list of all sixteen; 0 for none
 unfoldable pub siteOf : (ℕ → Bool) → ℕ → ℕ
-siteOf takes process = getD (sitesOf takes) (process - 1) 0
+siteOf takes process = getD (sitesTo takes 16) (process - 1) 0
 
 -- n, and the numbering both ways
 unfoldable pub numberingOf : (ℕ → Bool) → Numbering
@@ -101,12 +104,24 @@ noNumbering = record { n = 0; «process_of» = replicate 16 0; «site_of» = rep
 
 -- ---- the call
 
--- 13: a partial record, or any record that is not well formed; then 14: nobody takes part
+-- no partial record
+abbrev pub wholeRecords : List ℕ → Bool
+wholeRecords calendar = same (length calendar % 8) 0
+
+-- every record is well formed, also those of other weeks
+abbrev pub allWellFormed : List ℕ → Bool
+allWellFormed calendar = every (periodsIn calendar) (λ j. wellFormed (periodAt calendar j))
+
+-- some site takes part
+abbrev pub somebodyIn : List ℕ → ℕ → Bool
+somebodyIn calendar week = some 16 (λ i. takesPartIn calendar week (i + 1))
+
+-- a record at fault is 13; then a week in which nobody takes part is 14
 unfoldable pub weekRefusal : List ℕ → ℕ → ℕ
 weekRefusal calendar week =
-    check (same (length calendar % 8) 0) 13
-    (check (every (periodsIn calendar) (λ j. wellFormed (periodAt calendar j))) 13
-    (check (some 16 (λ i. takesPartIn calendar week (i + 1))) 14 0))
+    check (wholeRecords calendar) 13
+    (check (allWellFormed calendar) 13
+    (check (somebodyIn calendar week) 14 0))
 
 -- all of the numbering is 0
 unfoldable pub refusedBy : ℕ → WeekAnswer

@@ -9,7 +9,7 @@ use Rattle.sets.specs.Lists.{each, joined, every, some, count}
 use Rattle.sets.specs.Truth.{_&&_, same, below, oneTo, bit, choose, check}
 use Rattle.calendar.specs.declared.WeekAnswer.{WeekAnswer}
 use Rattle.calendar.specs.Calendar.{pairOf, periodsIn, periodAt, wellFormed, ownOf, lies, liesIn, openOn}
-use Rattle.calendar.specs.Calendar.{takesPartIn, sitesOf, howMany, processOf, siteOf, numberingOf, noNumbering}
+use Rattle.calendar.specs.Calendar.{takesPartIn, sitesTo, howMany, processOf, siteOf, numberingOf, noNumbering}
 use Rattle.calendar.specs.Calendar.{weekRefusal, refusedBy, answeredBy, weekOf}
 
 -- ---- calendars
@@ -118,7 +118,7 @@ table =
 
 -- what the definition gives for each, and what is written there
 pub weeks : map (λ c. weekOf (c .calendar) (c .week)) table ≡ map (λ c. c .answer) table
-unfolding weekOf weekRefusal refusedBy answeredBy numberingOf noNumbering processOf siteOf sitesOf howMany takesPartIn
+unfolding weekOf weekRefusal refusedBy answeredBy numberingOf noNumbering processOf siteOf sitesTo howMany takesPartIn
     openOn liesIn lies ownOf wellFormed periodAt periodsIn pairOf each joined every some count _&&_ same below oneTo
     bit choose check
 weeks = refl

@@ -16,20 +16,16 @@ use Rattle.sets.specs.Lists.{each, joined, count}
 use Rattle.sets.specs.Set.{has}
 use Rattle.sets.specs.Truth.{bit, choose}
 use Rattle.sets.specs.TruthLaws.{Is, is, on, off, choose-on, choose-off, le-or, eq-or}
-use Rattle.calendar.specs.Calendar.{sitesOf, howMany, processOf, siteOf, numberingOf}
+use Rattle.calendar.specs.Calendar.{sitesTo, howMany, processOf, siteOf, numberingOf}
 
 module _ (takes : ℕ → Bool) where
-  -- the sites 1 to m that take part, in rising number
-  unfoldable pub sitesTo : ℕ → List ℕ
-  sitesTo m = joined m (λ i. choose (takes (i + 1)) ((i + 1) ∷ []) [])
-
-  pub sites-on : (m : ℕ) → takes (m + 1) ≡ true → sitesTo (suc m) ≡ sitesTo m ++ ((m + 1) ∷ [])
+  pub sites-on : (m : ℕ) → takes (m + 1) ≡ true → sitesTo takes (suc m) ≡ sitesTo takes m ++ ((m + 1) ∷ [])
   unfolding sitesTo joined
-  sites-on m e = ap (λ l. sitesTo m ++ l) (choose-on (takes (m + 1)) ((m + 1) ∷ []) [] e)
+  sites-on m e = ap (λ l. sitesTo takes m ++ l) (choose-on (takes (m + 1)) ((m + 1) ∷ []) [] e)
 
-  pub sites-off : (m : ℕ) → takes (m + 1) ≡ false → sitesTo (suc m) ≡ sitesTo m
+  pub sites-off : (m : ℕ) → takes (m + 1) ≡ false → sitesTo takes (suc m) ≡ sitesTo takes m
   unfolding sitesTo joined
-  sites-off m e = ap (λ l. sitesTo m ++ l) (choose-off (takes (m + 1)) ((m + 1) ∷ []) [] e) ∙ append-nil _
+  sites-off m e = ap (λ l. sitesTo takes m ++ l) (choose-off (takes (m + 1)) ((m + 1) ∷ []) [] e) ∙ append-nil _
 
   pub many-zero : howMany takes 0 ≡ 0
   unfolding howMany count
@@ -62,14 +58,14 @@ module _ (takes : ℕ → Bool) where
   many-bound zero = omega (arith, many-zero)
   many-bound (suc m) = omega (arith, many-bound m, many-step m .1)
 
-  pub length-sites : (m : ℕ) → length (sitesTo m) ≡ howMany takes m
+  pub length-sites : (m : ℕ) → length (sitesTo takes m) ≡ howMany takes m
   unfolding sitesTo joined
   length-sites zero = sym many-zero
   length-sites (suc m) = go (is (takes (m + 1))) (length-sites m)
     where
-      go : Is (takes (m + 1)) → length (sitesTo m) ≡ howMany takes m → length (sitesTo (suc m)) ≡ howMany takes (suc m)
+      go : Is (takes (m + 1)) → length (sitesTo takes m) ≡ howMany takes m → length (sitesTo takes (suc m)) ≡ howMany takes (suc m)
       go (on e) h =
-          ap length (sites-on m e) ∙ length-append (sitesTo m) ((m + 1) ∷ []) ∙ omega (arith, h, many-on m e)
+          ap length (sites-on m e) ∙ length-append (sitesTo takes m) ((m + 1) ∷ []) ∙ omega (arith, h, many-on m e)
       go (off e) h = ap length (sites-off m e) ∙ h ∙ sym (many-off m e)
 
   -- what stands at place p of the list: a site of 1 to m that takes part, the p + 1st of them
@@ -82,24 +78,24 @@ module _ (takes : ℕ → Bool) where
   later : (m p s : ℕ) → Placed m p s → Placed (suc m) p s
   later m p s h = record { low = h .low; high = omega (arith, h .high); part = h .part; number = h .number }
 
-  pub placed : (m p : ℕ) → p < howMany takes m → Placed m p (getD (sitesTo m) p 0)
+  pub placed : (m p : ℕ) → p < howMany takes m → Placed m p (getD (sitesTo takes m) p 0)
   placed zero p h = absurd (omega (arith, many-zero))
   placed (suc m) p h = go (is (takes (m + 1))) (placed m p)
     where
-      go : Is (takes (m + 1)) → (p < howMany takes m → Placed m p (getD (sitesTo m) p 0))
-          → Placed (suc m) p (getD (sitesTo (suc m)) p 0)
+      go : Is (takes (m + 1)) → (p < howMany takes m → Placed m p (getD (sitesTo takes m) p 0))
+          → Placed (suc m) p (getD (sitesTo takes (suc m)) p 0)
       go (off e) ih = rw (sites-off m e) (later m p _ (ih (omega (arith, many-off m e))))
       go (on e) ih = rw (sites-on m e) (⊎-elim front end (le-or (howMany takes m) p))
         where
-          end : p < howMany takes m → Placed (suc m) p (getD (sitesTo m ++ ((m + 1) ∷ [])) p 0)
+          end : p < howMany takes m → Placed (suc m) p (getD (sitesTo takes m ++ ((m + 1) ∷ [])) p 0)
           end l =
-              rw (List·getD-append (sitesTo m) ((m + 1) ∷ []) 0 p (omega (arith, length-sites m)))
+              rw (List·getD-append (sitesTo takes m) ((m + 1) ∷ []) 0 p (omega (arith, length-sites m)))
               (later m p _ (ih l))
 
-          front : howMany takes m ≤ p → Placed (suc m) p (getD (sitesTo m ++ ((m + 1) ∷ [])) p 0)
+          front : howMany takes m ≤ p → Placed (suc m) p (getD (sitesTo takes m ++ ((m + 1) ∷ [])) p 0)
           front l =
               let q : p ≡ howMany takes m = omega (arith, many-on m e) in
-              rw (getD-at (sitesTo m) (m + 1) [] 0 p (length-sites m ∙ sym q))
+              rw (getD-at (sitesTo takes m) (m + 1) [] 0 p (length-sites m ∙ sym q))
               (record {
                 low = omega arith;
                 high = omega arith;
@@ -143,7 +139,7 @@ module _ (takes : ℕ → Bool) where
   stored-off m l e = rw (add-one, many-off takes m e, sites-off takes m e)
 
   pub stored-all : storedTo 16 (replicate 16 0) ≡ each 16 (λ i. siteOf takes (i + 1))
-  unfolding siteOf sitesOf sitesTo
+  unfolding siteOf sitesTo
   stored-all = each-getD 16 _ 0 (storedTo 16 (replicate 16 0)) long (λ k l. go k l (le-or (howMany takes 16) k))
     where
       rest : List ℕ
@@ -211,7 +207,7 @@ module _ (t u : ℕ → Bool) where
   many-cong m h = count-cong m _ _ h
 
   pub numbering-cong : ((i : ℕ) → i < 16 → t (i + 1) ≡ u (i + 1)) → numberingOf t ≡ numberingOf u
-  unfolding numberingOf processOf siteOf sitesOf sitesTo
+  unfolding numberingOf processOf siteOf sitesTo
   numbering-cong h = λ k. record {
     n = many-cong 16 h k;
     «process_of» =

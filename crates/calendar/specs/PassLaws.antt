@@ -18,7 +18,8 @@ use Rattle.sets.specs.TruthLaws.{or-mk-l, or-off-l}
 use Rattle.sets.specs.TruthLaws.{not-on, same-on, same-mk, same-not}
 use Rattle.sets.specs.TruthLaws.{same-off, below-on, below-mk, below-not, below-off, eq-or, one-low, one-high, one-mk}
 use Rattle.calendar.specs.declared.Period.{Period}
-use Rattle.calendar.specs.Calendar.{periodsIn, periodAt, wellFormed, ownOf, lies, liesIn, openOn, takesPartIn}
+use Rattle.calendar.specs.Calendar.{periodsIn, periodAt, wellFormed, ownOf, lies, hasDay, liesIn, openOn}
+use Rattle.calendar.specs.Calendar.{takesPartIn, somebodyIn}
 
 -- ---- the weekdays of one record: those before its end without those before its beginning
 module _ (monday : ℕ) (p : Period) where
@@ -51,8 +52,7 @@ module _ (monday : ℕ) (p : Period) where
 
 -- a day lies in one of the first k records that is of a kind, for a site
 unfoldable pub liesInTo : List ℕ → ℕ → ℕ → ℕ → ℕ → Bool
-liesInTo calendar k kind site day =
-    some k (λ j. ownOf kind site (periodAt calendar j) && lies day (periodAt calendar j))
+liesInTo calendar k kind site day = some k (λ j. hasDay kind site day (periodAt calendar j))
 
 -- where the days of a kind and a site are kept
 abbrev pub slotOf : ℕ → ℕ → ℕ
@@ -130,7 +130,7 @@ module _ (calendar : List ℕ) (monday : ℕ) where
     -- a day in one of the first j records, or in this one
     lies-more : (kind site day : ℕ)
         → liesInTo calendar (suc j) kind site day
-        ≡ ((ownOf kind site p && lies day p) || liesInTo calendar j kind site day)
+        ≡ (hasDay kind site day p || liesInTo calendar j kind site day)
     unfolding liesInTo
     lies-more kind site day = some-suc j _
 
@@ -263,10 +263,10 @@ module _ (calendar : List ℕ) (week : ℕ) (days : List ℕ)
     pub part-in : (i : ℕ) → i < 16 → has set i ≡ takesPartIn calendar week (i + 1)
     part-in i l = h i ∙ and-on-l _ _ (below-mk i 16 l) ∙ part-is i l
 
-    pub nobody : set ≡ 0 → some 16 (λ i. takesPartIn calendar week (i + 1)) ≡ false
+    pub nobody : set ≡ 0 → somebodyIn calendar week ≡ false
     nobody e = some-none 16 _ (λ i l. sym (part-in i l) ∙ nothing-in set e i)
 
-    pub somebody : set ≢ 0 → some 16 (λ i. takesPartIn calendar week (i + 1)) ≡ true
+    pub somebody : set ≢ 0 → somebodyIn calendar week ≡ true
     somebody d =
         let w = member-of set d in
         let l : w .0 < 16 = below-on (w .0) 16 (and-l _ _ (sym (h (w .0)) ∙ w .1)) in

@@ -10,13 +10,13 @@ use native.Mathlib.Omega.{arith}
 use lib.ListN.{length, getD, length-append, List·getD-append}
 use lib.Seq.{getD-append-add}
 use Rattle.sets.specs.EveryLaws.{every-on, every-mk, some-on, some-mk, some-cong, some-none}
-use Rattle.sets.specs.Lists.{every}
 use Rattle.sets.specs.Truth.{_&&_, same}
 use Rattle.sets.specs.TruthLaws.{both-ways, off-by, and-l, and-r, and-mk, and-off-l, same-on, same-mk}
 use Rattle.sets.specs.TruthLaws.{below-not, not-on, le-or}
 use Rattle.calendar.specs.declared.Period.{Period}
 use Rattle.calendar.specs.Calendar.{pairOf, periodsIn, periodAt, wellFormed, ownOf, lies, liesIn}
-use Rattle.calendar.specs.Calendar.{openOn, dayOf, takesPartIn, weekRefusal, refusedBy, weekOf}
+use Rattle.calendar.specs.Calendar.{openOn, dayOf, takesPartIn, wholeRecords, allWellFormed, weekRefusal}
+use Rattle.calendar.specs.Calendar.{refusedBy, weekOf}
 use Rattle.calendar.specs.RefusalLaws.{nobody-14}
 
 -- p is one of the calendar's records
@@ -99,12 +99,12 @@ module _ (x y : List ℕ) (w : Whole x) where
 -- ---- the answer by the calendar's records
 module _ (calendar : List ℕ) where
   -- every record is well formed, and a day lies in some record of a kind and site
-  pub formed-on : every (periodsIn calendar) (λ j. wellFormed (periodAt calendar j)) ≡ true
+  pub formed-on : allWellFormed calendar ≡ true
       → (p : Period) → In p calendar → wellFormed p ≡ true
   formed-on e p h = ap wellFormed (sym (h .found)) ∙ every-on _ _ e (h .place) (h .inside)
 
   pub formed-mk : ((p : Period) → In p calendar → wellFormed p ≡ true)
-      → every (periodsIn calendar) (λ j. wellFormed (periodAt calendar j)) ≡ true
+      → allWellFormed calendar ≡ true
   formed-mk f = every-mk _ _ (λ j l. f _ (record { place = j; inside = l; found = refl }))
 
   pub lies-on : (kind site day : ℕ) → liesIn calendar kind site day ≡ true
@@ -130,8 +130,8 @@ unfolding takesPartIn openOn
 part-cong a b week site h = some-cong 5 _ _ (λ i l. ap₂ (λ s c. s && not c) (h 1 i l) (h 2 i l))
 
 -- the answer, by its three parts
-pub week-cong : (a b : List ℕ) (week : ℕ) → same (length a % 8) 0 ≡ same (length b % 8) 0
-    → every (periodsIn a) (λ j. wellFormed (periodAt a j)) ≡ every (periodsIn b) (λ j. wellFormed (periodAt b j))
+pub week-cong : (a b : List ℕ) (week : ℕ) → wholeRecords a ≡ wholeRecords b
+    → allWellFormed a ≡ allWellFormed b
     → ((site : ℕ) → takesPartIn a week site ≡ takesPartIn b week site) → weekOf a week ≡ weekOf b week
 unfolding weekOf weekRefusal
 week-cong a b week w f t =
@@ -275,6 +275,6 @@ module _ (calendar : List ℕ) (bytes : (k : ℕ) → getD calendar k 0 < 256) (
       omega (arith, last-small (w .0) (w .1), last-there (w .0) i (w .3)))))
 
   -- nobody takes part, so 14 if it is not 13
-  pub past-weeks : Whole calendar → every (periodsIn calendar) (λ j. wellFormed (periodAt calendar j)) ≡ true
+  pub past-weeks : Whole calendar → allWellFormed calendar ≡ true
       → weekOf calendar week ≡ refusedBy 14
   past-weeks w f = nobody-14 calendar week (same-mk _ 0 w) f (some-none 16 _ (λ i l. past-part (i + 1)))

@@ -15,9 +15,9 @@ use Rattle.sets.specs.Truth.{oneTo}
 use Rattle.sets.specs.TruthLaws.{Is, is, on, off, choose-on, choose-off, same-mk, one-low, one-high, one-mk}
 use Rattle.sets.specs.TruthLaws.{le-or, eq-or, check-zero}
 use Rattle.calendar.specs.declared.Numbering.{Numbering}
-use Rattle.calendar.specs.Calendar.{takesPartIn, sitesOf, howMany, processOf, siteOf, numberingOf, weekRefusal}
+use Rattle.calendar.specs.Calendar.{takesPartIn, sitesTo, howMany, processOf, siteOf, numberingOf, weekRefusal}
 use Rattle.calendar.specs.Calendar.{answeredBy, weekOf}
-use Rattle.calendar.specs.NumberingLaws.{sitesTo, length-sites, many-bound, many-on, many-le, Placed, placed}
+use Rattle.calendar.specs.NumberingLaws.{length-sites, many-bound, many-on, many-le, Placed, placed}
 use Rattle.calendar.specs.NumberingLaws.{number-one}
 
 -- the process of a site and the site of a process, as an answer has them; both are numbered from 1
@@ -63,7 +63,7 @@ module _ (takes : ℕ → Bool) where
   process-on s e t = process-is s e ∙ choose-on (takes s) _ 0 t
 
   site-is : (p : ℕ) → 1 ≤ p → p ≤ 16 → siteIn a p ≡ getD (sitesTo takes 16) (p - 1) 0
-  unfolding numberingOf siteOf sitesOf sitesTo
+  unfolding numberingOf siteOf sitesTo
   site-is p l h =
       let k : p - 1 + 1 ≡ p = omega arith in
       getD-each 16 _ 0 (p - 1) (omega arith) ∙ ap (siteOf takes) k

@@ -6,11 +6,10 @@ ghost use mathlib.Core.Path.{_≡_};
 ghost use mathlib.Core.Bool.{true};
 ghost use Prim.Native.Nat.{ℕ, _+_, _-_, _/_, _<_, _≤_, min};
 ghost use lib.ListN.{length};
-ghost use Rattle.sets.specs.Lists.{every};
 ghost use Rattle.sets.specs.Set.{has};
 ghost use Rattle.sets.specs.Truth.{_&&_, below};
-ghost use Rattle.calendar.specs.Calendar.{pairOf, periodsIn, periodAt, wellFormed, lies};
-ghost use Rattle.calendar.specs.Calendar.{numberingOf, refusedBy, weekOf};
+ghost use Rattle.calendar.specs.Calendar.{pairOf, periodsIn, periodAt, wellFormed, allWellFormed};
+ghost use Rattle.calendar.specs.Calendar.{lies, numberingOf, refusedBy, weekOf};
 ghost use Rattle.calendar.specs.NumberingLaws.{inSet};
 ghost use Rattle.calendar.specs.PassLaws.{slotOf, Marked, Collected, someDay};
 
@@ -105,8 +104,7 @@ fn slot_of(p: Period) -> usize
 // The one pass over the records. It stops at one that is not well formed.
 fn mark_days(calendar: &[u8], monday: u32) -> Marks
     requires { ⌜ monday ≤ 458745 ⌝ }
-    ensures { λ r. ⌜ r .valid
-        ≡ every (periodsIn (now (calendar .entry))) (λ j. wellFormed (periodAt (now (calendar .entry)) j)) ⌝ }
+    ensures { λ r. ⌜ r .valid ≡ allWellFormed (now (calendar .entry)) ⌝ }
     ensures { λ r. ⌜ (r .valid ≡ true
         → Marked (now (calendar .entry)) monday (periodsIn (now (calendar .entry))) (r .days)) ⌝ }
 {

@@ -11,8 +11,8 @@ use borrow.Author.Needs.{needs}
 use lib.ListN.{set, replicate, getD-replicate}
 use Rattle.sets.specs.EachLaws.{each-done}
 use Rattle.sets.specs.Lists.{each, joined}
-use Rattle.calendar.specs.Calendar.{howMany, numberingOf, processOf}
-use Rattle.calendar.specs.NumberingLaws.{inSet, sitesTo, many-zero, many-on, many-off}
+use Rattle.calendar.specs.Calendar.{sitesTo, howMany, numberingOf, processOf}
+use Rattle.calendar.specs.NumberingLaws.{inSet, many-zero, many-on, many-off}
 use Rattle.calendar.specs.NumberingLaws.{storedTo, stored-on, stored-off, stored-all}
 use Rattle.calendar.specs.NumberingLaws.{numbersTo, numbers-on, numbers-off}
 use Rattle.calendar.proofs.numbered.Statement.{statement}

@@ -63,7 +63,8 @@ module _ (takes : ℕ → Bool) where
   length-sites zero = sym many-zero
   length-sites (suc m) = go (is (takes (m + 1))) (length-sites m)
     where
-      go : Is (takes (m + 1)) → length (sitesTo takes m) ≡ howMany takes m → length (sitesTo takes (suc m)) ≡ howMany takes (suc m)
+      go : Is (takes (m + 1)) → length (sitesTo takes m) ≡ howMany takes m
+          → length (sitesTo takes (suc m)) ≡ howMany takes (suc m)
       go (on e) h =
           ap length (sites-on m e) ∙ length-append (sitesTo takes m) ((m + 1) ∷ []) ∙ omega (arith, h, many-on m e)
       go (off e) h = ap length (sites-off m e) ∙ h ∙ sym (many-off m e)

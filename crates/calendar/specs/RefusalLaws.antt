@@ -22,7 +22,8 @@ module _ (calendar : List ℕ) (week : ℕ) where
   unfolding weekRefusal
   record-13 w f = refused 13 (check-on _ _ _ w ∙ check-off _ _ _ f) (λ e. omega arith)
 
-  pub nobody-14 : wholeRecords calendar ≡ true → allWellFormed calendar ≡ true → somebodyIn calendar week ≡ false → weekOf calendar week ≡ refusedBy 14
+  pub nobody-14 : wholeRecords calendar ≡ true → allWellFormed calendar ≡ true → somebodyIn calendar week ≡ false
+      → weekOf calendar week ≡ refusedBy 14
   unfolding weekRefusal
   nobody-14 w f t = refused 14 (check-on _ _ _ w ∙ check-on _ _ _ f ∙ check-off _ _ _ t) (λ e. omega arith)
 

@@ -1,16 +1,16 @@
--- The starred cases 1 to 8 of document 01, as one table, and one theorem that the definitions give each
--- of them its answers, how its rounds ended (request C-11) and its end.
+-- The starred cases 1 to 8 of document 01, and starts of the requests, as one table, and one theorem that the
+-- definitions give each of them its answers, how its rounds ended (request C-11) and its end.
 use mathlib.Core.Path.{_≡_, refl}
 use mathlib.Core.List.{List, [], _∷_}
 use mathlib.Core.Bool.{Bool, true, false}
-use Prim.Native.Nat.{ℕ, zero, suc}
+use Prim.Native.Nat.{ℕ, zero, suc, _/_, _%_}
 use lib.Count.{ones}
 use Rattle.sets.specs.Lists.{each, every, everyIn}
 use Rattle.sets.specs.Set.{has, insertOf, removeOf, unionOf, intersectionOf, differenceOf, allOf, sizeOf, within}
 use Rattle.sets.specs.Truth.{_&&_, _||_, same, below, choose, oneTo, check}
 use Rattle.global_data.specs.declared.Entry.{Entry}
 use Rattle.global_data.specs.declared.Entry.the-variants.{Absent, Value}
-use Rattle.global_data.specs.GlobalData.{entryOf, sameEntry, nothingOf, oneOf}
+use Rattle.global_data.specs.GlobalData.{portionsOf, dietOf, entryOf, sameEntry, dietFits, nothingOf, oneOf}
 use Rattle.global_data.specs.GlobalData.{filledWord, fillOf, fillFrom, sameTo, allSame}
 use Rattle.process.specs.Steps.{hasDecided, idleOf, takesPart, openRoundOf, startOf, keeps, receiveOf}
 use Rattle.process.specs.Steps.{arrivedOf, dueOf, nextOf, peersOf, filledOf, agreedOf, closingOf}
@@ -24,34 +24,39 @@ use Rattle.bench.specs.State.{processAt, sentAt, transitAt, crashedAt, w
 use Rattle.bench.specs.State.{withSent, withTransit, withCrashed, openedOf}
 use Rattle.bench.specs.Sound.{opens, soundData, soundProcess, soundOf}
 use Rattle.bench.specs.Record.{wordOf, usesB, usesR, usesValue, fieldB, fieldR}
-use Rattle.bench.specs.Record.{fieldValue, fields, messageFrom, eventOf, partsOf, decodeOf}
+use Rattle.bench.specs.Record.{fieldValue, fields, messageFrom, eventOf, partsOf}
+use Rattle.bench.specs.Record.{readOf, startFits, checkDiet, decodeOf}
 use Rattle.bench.specs.Refuse.{numberOf, actor, isCrash, passes7, passes8}
 use Rattle.bench.specs.Refuse.{passes9, refuses, refusesDecoded, refusal}
 use Rattle.bench.specs.Effect.{opensRound, rowsAt, sends, arrives, closesAs, effect, effectDecoded, effectOf}
 use Rattle.bench.specs.Closings.{closingAt, closingDecoded, closingIn, isNone}
 use Rattle.bench.specs.Calls.{afterRecord}
 
--- a record's bytes: kind, a, b, r, and a value below 256
-bytes : ℕ → ℕ → ℕ → ℕ → ℕ → List ℕ
-bytes kind a b r v = kind ∷ a ∷ b ∷ r ∷ v ∷ 0 ∷ 0 ∷ 0 ∷ []
+-- a record's bytes: kind, a, b, r, and no value
+bytes : ℕ → ℕ → ℕ → ℕ → List ℕ
+bytes kind a b r = kind ∷ a ∷ b ∷ r ∷ 0 ∷ 0 ∷ 0 ∷ 0 ∷ []
+
+-- portions and diet portions
+startWith : ℕ → ℕ → ℕ → List ℕ
+startWith a p d = 1 ∷ a ∷ 0 ∷ 0 ∷ p % 256 ∷ p / 256 ∷ d % 256 ∷ d / 256 ∷ []
 
 start : ℕ → ℕ → List ℕ
-start a v = bytes 1 a 0 0 v
+start a p = startWith a p 0
 
 send : ℕ → ℕ → List ℕ
-send a b = bytes 2 a b 0 0
+send a b = bytes 2 a b 0
 
 arrive : ℕ → ℕ → ℕ → List ℕ
-arrive a b r = bytes 3 a b r 0
+arrive a b r = bytes 3 a b r
 
 close : ℕ → List ℕ
-close a = bytes 4 a 0 0 0
+close a = bytes 4 a 0 0
 
 crash : ℕ → List ℕ
-crash a = bytes 5 a 0 0 0
+crash a = bytes 5 a 0 0
 
 suspect : ℕ → ℕ → List ℕ
-suspect a b = bytes 6 a b 0 0
+suspect a b = bytes 6 a b 0
 
 -- a process at the end, as the program's `T` lines show it
 pub record Line : Type 0 where
@@ -168,12 +173,12 @@ case1 =
       answers = 0 ∷ 0 ∷ [];
       closings = at 2 LastRound ∷ [];
       lines =
-          line 1 1 false true 1 (Value 7 ∷ []) ∷ [];
+          line 1 1 false true 1 (Value 7 0 ∷ []) ∷ [];
     }
 
 -- 2: three processes, no crash, all decide in round 2, each since the estimates agree
 allThree : ℕ → Line
-allThree a = line a 2 false true 7 (Value 5 ∷ Value 6 ∷ Value 7 ∷ [])
+allThree a = line a 2 false true 7 (Value 5 0 ∷ Value 6 0 ∷ Value 7 0 ∷ [])
 
 case2 : Case
 case2 =
@@ -200,7 +205,7 @@ case3 =
       answers = 0 ∷ 0 ∷ [];
       closings = at 2 LastRound ∷ [];
       lines =
-          line 1 1 false true 1 (Value 0 ∷ []) ∷ [];
+          line 1 1 false true 1 (Value 0 0 ∷ []) ∷ [];
     }
 
 -- 4: the program's input, all twelve answers and both final lines; 6 on top of it: a crash too many
@@ -217,8 +222,8 @@ case4and6 =
       answers = 0 ∷ 0 ∷ 0 ∷ 0 ∷ 0 ∷ 0 ∷ 0 ∷ 0 ∷ 0 ∷ 8 ∷ 0 ∷ 0 ∷ 9 ∷ [];
       closings = at 7 NextRound ∷ at 12 LastRound ∷ [];
       lines =
-          line 1 2 false true 3 (Value 40 ∷ Value 25 ∷ [])
-          ∷ line 2 1 true false 3 (Absent ∷ Value 25 ∷ []) ∷ [];
+          line 1 2 false true 3 (Value 40 0 ∷ Value 25 0 ∷ [])
+          ∷ line 2 1 true false 3 (Absent ∷ Value 25 0 ∷ []) ∷ [];
     }
 
 -- 5: sizes that open and sizes that do not
@@ -235,7 +240,7 @@ case7 =
       records = start 1 40 ∷ start 2 25 ∷ send 1 2 ∷ send 2 1 ∷ arrive 2 1 1 ∷ crash 2 ∷ suspect 1 2 ∷ close 1 ∷ [];
       answers = 0 ∷ 0 ∷ 0 ∷ 0 ∷ 0 ∷ 0 ∷ 0 ∷ 0 ∷ [];
       closings = at 8 NextRound ∷ [];
-      lines = line 1 2 false false 3 (Value 40 ∷ Value 25 ∷ []) ∷ [];
+      lines = line 1 2 false false 3 (Value 40 0 ∷ Value 25 0 ∷ []) ∷ [];
     }
 
 -- 8: equal estimates with previous and next differing, in a round below t + 1: no decision
@@ -248,7 +253,7 @@ case8 =
       records = start 1 5 ∷ crash 2 ∷ suspect 1 2 ∷ send 1 2 ∷ close 1 ∷ [];
       answers = 0 ∷ 0 ∷ 0 ∷ 0 ∷ 0 ∷ [];
       closings = at 5 NextRound ∷ [];
-      lines = line 1 2 false false 1 (Value 5 ∷ Absent ∷ []) ∷ [];
+      lines = line 1 2 false false 1 (Value 5 0 ∷ Absent ∷ []) ∷ [];
     }
 
 -- one more: the estimate sent in a round is the one held when it opened, though its sender has since closed that round
@@ -265,8 +270,8 @@ case9 =
       answers = 0 ∷ 0 ∷ 0 ∷ 0 ∷ 0 ∷ 0 ∷ 0 ∷ 0 ∷ 0 ∷ 0 ∷ 0 ∷ 0 ∷ 0 ∷ 0 ∷ 0 ∷ [];
       closings = at 12 NextRound ∷ at 15 NextRound ∷ [];
       lines =
-          line 1 2 false false 7 (Value 5 ∷ Value 6 ∷ Value 7 ∷ [])
-          ∷ line 2 2 false false 3 (Value 5 ∷ Value 6 ∷ Absent ∷ []) ∷ [];
+          line 1 2 false false 7 (Value 5 0 ∷ Value 6 0 ∷ Value 7 0 ∷ [])
+          ∷ line 2 2 false false 3 (Value 5 0 ∷ Value 6 0 ∷ Absent ∷ []) ∷ [];
     }
 
 -- and one: a decision that arrives decides, and is no close
@@ -281,27 +286,56 @@ case10 =
           ∷ [];
       answers = 0 ∷ 0 ∷ 0 ∷ 0 ∷ 0 ∷ 0 ∷ 0 ∷ 0 ∷ 0 ∷ [];
       closings = at 7 LastRound ∷ [];
-      lines = line 2 1 false true 3 (Value 5 ∷ Value 6 ∷ []) ∷ [];
+      lines = line 2 1 false true 3 (Value 5 0 ∷ Value 6 0 ∷ []) ∷ [];
+    }
+
+-- and C-15's: a start's two numbers at their ends, and 15 between 5 and 6
+values : ℕ → ℕ → Case
+values p d =
+    record {
+      n = 1;
+      t = 0;
+      opening = 0;
+      records = startWith 1 p d ∷ close 1 ∷ [];
+      answers = 0 ∷ 0 ∷ [];
+      closings = at 2 LastRound ∷ [];
+      lines = line 1 1 false true 1 (Value p d ∷ []) ∷ [];
+    }
+
+-- one more diet portion than portions; then 5 before 15 (no process 3), and 15 before 6 and before 7
+tooMuch : Case
+tooMuch =
+    record {
+      n = 2;
+      t = 1;
+      opening = 0;
+      records =
+          startWith 1 0 1 ∷ startWith 1 65534 65535 ∷ startWith 1 255 256 ∷ startWith 3 3 4 ∷ startWith 1 40 3
+          ∷ startWith 1 3 4
+          ∷ startWith 1 4 4 ∷ crash 2 ∷ startWith 2 3 4 ∷ startWith 2 4 4 ∷ [];
+      answers = 15 ∷ 15 ∷ 15 ∷ 5 ∷ 0 ∷ 15 ∷ 7 ∷ 0 ∷ 15 ∷ 6 ∷ [];
+      closings = [];
+      lines = line 1 1 false false 3 (Value 40 3 ∷ Absent ∷ []) ∷ line 2 0 true false 0 (Absent ∷ Absent ∷ []) ∷ [];
     }
 
 pub table : List Case
 table =
     case1 ∷ case2 ∷ case3 ∷ case4and6 ∷ sizes 16 15 0 ∷ sizes 17 0 1 ∷ sizes 0 0 1 ∷ case7 ∷ case8 ∷ case9 ∷ case10
-    ∷ []
+    ∷ values 0 0 ∷ values 65535 0 ∷ values 65535 65535 ∷ values 1 1 ∷ tooMuch ∷ []
 
 -- every case passes: the checker computes it from the definitions
 pub cases : everyIn passes table ≡ true
-unfolding bytes start send arrive close crash suspect answersOf closingsOf endOf sameBool sameList sameClosings
+unfolding bytes startWith start send arrive close crash suspect answersOf closingsOf endOf sameBool sameList sameClosings
     sameEntries pred sameLine passes
-    round3 noRefusal allThree case1 case2 case3 case4and6 sizes case7 case8 case9 case10 table
+    round3 noRefusal allThree case1 case2 case3 case4and6 sizes case7 case8 case9 case10 values tooMuch table
     has insertOf removeOf unionOf intersectionOf differenceOf allOf sizeOf ones _&&_ _||_ same below choose
-    entryOf sameEntry each every nothingOf oneOf filledWord fillOf fillFrom sameTo allSame
+    portionsOf dietOf entryOf sameEntry dietFits each every nothingOf oneOf filledWord fillOf fillFrom sameTo allSame
     idleOf hasDecided takesPart openRoundOf startOf keeps receiveOf arrivedOf dueOf nextOf peersOf filledOf agreedOf
     closingOf closingNumber opensNext decidesOf owedOf decideOf advanceOf closeOf adoptOf messageOf sendOf suspectOf
     processAt sentAt transitAt crashedAt withProcess withSent withTransit withCrashed openedOf opens everyIn within
     soundData soundProcess soundOf
-    wordOf oneTo usesB usesR usesValue fieldB fieldR fieldValue fields messageFrom eventOf partsOf decodeOf check
-    numberOf actor isCrash passes7 passes8 passes9 refuses refusesDecoded refusal
+    wordOf oneTo usesB usesR usesValue fieldB fieldR fieldValue fields messageFrom eventOf partsOf
+    readOf startFits checkDiet decodeOf check numberOf actor isCrash passes7 passes8 passes9 refuses refusesDecoded refusal
     opensRound rowsAt sends arrives closesAs effect effectDecoded effectOf afterRecord
     closingAt closingDecoded closingIn isNone
 cases = refl

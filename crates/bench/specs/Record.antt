@@ -1,9 +1,10 @@
--- Records (document 01): 8 bytes, kind, a, b, r, then value, low byte first; and refusals 3, 4 and 5.
+-- Records (document 01): 8 bytes, kind, a, b, r, then value, low byte first; and refusals 3, 4, 5 and 15.
 use mathlib.Core.List.{List}
-use mathlib.Core.Bool.{Bool, not}
+use mathlib.Core.Bool.{Bool, true, not}
 use Prim.Native.Nat.{ℕ, _+_, _-_, _*_}
 use lib.ListN.{getD, length}
 use Rattle.sets.specs.Truth.{_&&_, _||_, same, below, oneTo, choose}
+use Rattle.global_data.specs.GlobalData.{valueIn, dietFits}
 use Rattle.bench.specs.declared.Message.{Message}
 use Rattle.bench.specs.declared.Message.the-variants.{Estimate, Decision}
 use Rattle.bench.specs.declared.Event.{Event}
@@ -11,7 +12,7 @@ use Rattle.bench.specs.declared.Event.the-variants.{Start, Send, Arrive,
 use Rattle.bench.specs.declared.Decoded.{Decoded}
 use Rattle.bench.specs.declared.Decoded.the-variants.{Got, Refused}
 
--- four bytes, the low one first
+-- four bytes, the low one first: of a value the portions, then the diet portions (request C-15)
 unfoldable pub wordOf : ℕ → ℕ → ℕ → ℕ → ℕ
 wordOf a b c d = a + b * 256 + c * 65536 + d * 16777216
 
@@ -57,9 +58,28 @@ partsOf n t kind a b r v =
     (choose (fields n t kind a b r v) (Got (eventOf kind (a - 1) (b - 1) r v)) (Refused (record { number = 5 })))
     (Refused (record { number = 4 }))
 
-unfoldable pub decodeOf : ℕ → ℕ → List ℕ → Decoded
-decodeOf n t l =
+-- any bytes: refusal 3, else by their parts
+unfoldable pub readOf : ℕ → ℕ → List ℕ → Decoded
+readOf n t l =
     choose (same (length l) 8)
     (partsOf n t (getD l 0 0) (getD l 1 0) (getD l 2 0) (getD l 3 0)
     (wordOf (getD l 4 0) (getD l 5 0) (getD l 6 0) (getD l 7 0)))
     (Refused (record { number = 3 }))
+
+-- the diet portions of a start do not exceed its portions; no other record has any
+unfoldable pub startFits : Event → Bool
+startFits (Start a v) = dietFits (valueIn v)
+startFits (Send a b) = true
+startFits (Arrive a b m) = true
+startFits (Close a) = true
+startFits (Crash a) = true
+startFits (Suspect a b) = true
+
+-- refusal 15 (request C-15), after 3, 4 and 5
+unfoldable pub checkDiet : Decoded → Decoded
+checkDiet (Got e) = choose (startFits e) (Got e) (Refused (record { number = 15 }))
+checkDiet (Refused r) = Refused r
+
+-- what some bytes are to a bench of n processes and crash limit t
+unfoldable pub decodeOf : ℕ → ℕ → List ℕ → Decoded
+decodeOf n t l = checkDiet (readOf n t l)

@@ -1,5 +1,5 @@
 -- Laws of records: each refusal of the decoder by its test, what a decoded event ranges over,
--- and that every event in range has its 8 bytes.
+-- and that every event in range has its 8 bytes, but for a start that is refused by 15.
 -- A decoded record has its parts by the tests that let it through; an event's bytes are read back digit by digit.
 use mathlib.Core.Path.{_≡_, refl, sym, ap, ap₂, _∙_}
 use mathlib.Core.Logic.{_≢_}
@@ -12,19 +12,30 @@ use lib.Dec.{eqb, lit<}
 use lib.ListN.{getD, length}
 use Rattle.sets.specs.Truth.{_&&_, _||_, same, below, choose, oneTo}
 use Rattle.sets.specs.TruthLaws.{one-low, one-high, one-mk, Is, on, off, is, choose-on, choose-off, and-l}
-use Rattle.sets.specs.TruthLaws.{and-r, and-mk, not-on, same-on, same-mk, same-off, same-not, below-on, below-mk}
+use Rattle.sets.specs.TruthLaws.{and-r, and-mk, or-off-l, or-mk-l, not-on, same-on, same-mk, same-off, same-not}
+use Rattle.sets.specs.TruthLaws.{below-on, below-mk}
+use Rattle.global_data.specs.GlobalData.{portionsOf, dietOf, valueIn, dietFits}
+use Rattle.global_data.specs.WordLaws.{fits-mk}
 use Rattle.bench.specs.declared.Refusal.{Refusal}
 use Rattle.bench.specs.declared.Message.{Message}
 use Rattle.bench.specs.declared.Message.the-variants.{Estimate, Decision}
 use Rattle.bench.specs.declared.Event.{Event}
 use Rattle.bench.specs.declared.Event.the-variants.{Start, Send, Arrive, Close, Crash, Suspect}
+use Rattle.bench.specs.declared.Decoded.{Decoded}
 use Rattle.bench.specs.declared.Decoded.the-variants.{Got, Refused}
 use Rattle.bench.specs.Record.{wordOf, usesB, usesR, usesValue, fieldB, fieldR}
-use Rattle.bench.specs.Record.{fieldValue, fields, messageFrom, eventOf, partsOf, decodeOf}
+use Rattle.bench.specs.Record.{fieldValue, fields, messageFrom, eventOf, partsOf}
+use Rattle.bench.specs.Record.{readOf, startFits, checkDiet, decodeOf}
 
 -- the value of a record's last four bytes
 unfoldable pub valueOf : List ℕ → ℕ
 valueOf l = wordOf (getD l 4 0) (getD l 5 0) (getD l 6 0) (getD l 7 0)
+
+-- its two numbers: portions in the first two bytes, diet portions in the last two
+pub value-parts : (a b c d : ℕ) → a < 256 → b < 256
+    → (portionsOf (wordOf a b c d) ≡ a + b * 256) × (dietOf (wordOf a b c d) ≡ c + d * 256)
+unfolding portionsOf dietOf wordOf
+value-parts a b c d h k = (omega arith, omega arith)
 
 -- ---- a record's parts: refusal 4, refusal 5, or the event
 module _ (n t kind a b r v : ℕ) where
@@ -44,14 +55,14 @@ module _ (n t kind a b r v : ℕ) where
 
 -- ---- bytes: refusal 3, or the parts
 module _ (n t : ℕ) (l : List ℕ) where
-  pub decode-size : length l ≢ 8 → decodeOf n t l ≡ Refused (record { number = 3 })
-  unfolding decodeOf
-  decode-size h = choose-off _ _ _ (same-off (length l) 8 h)
+  read-size : length l ≢ 8 → readOf n t l ≡ Refused (record { number = 3 })
+  unfolding readOf
+  read-size h = choose-off _ _ _ (same-off (length l) 8 h)
 
-  pub decode-parts : length l ≡ 8
-      → decodeOf n t l ≡ partsOf n t (getD l 0 0) (getD l 1 0) (getD l 2 0) (getD l 3 0) (valueOf l)
-  unfolding decodeOf valueOf
-  decode-parts h = choose-on _ _ _ (same-mk (length l) 8 h)
+  read-parts : length l ≡ 8
+      → readOf n t l ≡ partsOf n t (getD l 0 0) (getD l 1 0) (getD l 2 0) (getD l 3 0) (valueOf l)
+  unfolding readOf valueOf
+  read-parts h = choose-on _ _ _ (same-mk (length l) 8 h)
 
 -- what an event was decoded from
 pub record From (n t : ℕ) (l : List ℕ) (e : Event) : Type 0 where
@@ -62,8 +73,8 @@ pub record From (n t : ℕ) (l : List ℕ) (e : Event) : Type 0 where
 
 -- refused for one of three numbers, or got
 data Outcome (n t : ℕ) (l : List ℕ) : Type 0 where
-  refusedBy : (k : ℕ) → k ≢ 0 → decodeOf n t l ≡ Refused (record { number = k }) → Outcome n t l
-  gotFrom : (e : Event) → From n t l e → decodeOf n t l ≡ Got e → Outcome n t l
+  refusedBy : (k : ℕ) → k ≢ 0 → readOf n t l ≡ Refused (record { number = k }) → Outcome n t l
+  gotFrom : (e : Event) → From n t l e → readOf n t l ≡ Got e → Outcome n t l
 
 outcome : (n t : ℕ) (l : List ℕ) → Outcome n t l
 outcome n t l = sized (is (same (length l) 8))
@@ -72,34 +83,136 @@ outcome n t l = sized (is (same (length l) 8))
         → Is (fields n t (getD l 0 0) (getD l 1 0) (getD l 2 0) (getD l 3 0) (valueOf l)) → Outcome n t l
     fitting h k (on p) =
         gotFrom _ (record { size = h; kind = k; fit = p; event = refl })
-        (decode-parts n t l h ∙ parts-got n t (getD l 0 0) (getD l 1 0) (getD l 2 0) (getD l 3 0) (valueOf l) k p)
+        (read-parts n t l h ∙ parts-got n t (getD l 0 0) (getD l 1 0) (getD l 2 0) (getD l 3 0) (valueOf l) k p)
     fitting h k (off p) =
         refusedBy 5 (omega arith)
-        (decode-parts n t l h ∙ parts-unfit n t (getD l 0 0) (getD l 1 0) (getD l 2 0) (getD l 3 0) (valueOf l) k p)
+        (read-parts n t l h ∙ parts-unfit n t (getD l 0 0) (getD l 1 0) (getD l 2 0) (getD l 3 0) (valueOf l) k p)
 
     known : length l ≡ 8 → Is (oneTo 6 (getD l 0 0)) → Outcome n t l
     known h (on k) = fitting h k (is (fields n t (getD l 0 0) (getD l 1 0) (getD l 2 0) (getD l 3 0) (valueOf l)))
     known h (off k) =
         refusedBy 4 (omega arith)
-        (decode-parts n t l h ∙ parts-unknown n t (getD l 0 0) (getD l 1 0) (getD l 2 0) (getD l 3 0) (valueOf l) k)
+        (read-parts n t l h ∙ parts-unknown n t (getD l 0 0) (getD l 1 0) (getD l 2 0) (getD l 3 0) (valueOf l) k)
 
     sized : Is (same (length l) 8) → Outcome n t l
     sized (on h) = known (same-on (length l) 8 h) (is (oneTo 6 (getD l 0 0)))
-    sized (off h) = refusedBy 3 (omega arith) (decode-size n t l (same-not (length l) 8 h))
+    sized (off h) = refusedBy 3 (omega arith) (read-size n t l (same-not (length l) 8 h))
 
-pub decode-from : (n t : ℕ) (l : List ℕ) (e : Event) → decodeOf n t l ≡ Got e → From n t l e
-decode-from n t l e p = go (outcome n t l)
+read-from : (n t : ℕ) (l : List ℕ) (e : Event) → readOf n t l ≡ Got e → From n t l e
+read-from n t l e p = go (outcome n t l)
   where
     go : Outcome n t l → From n t l e
     go (refusedBy k h q) = absurd (let z : _≡_ {A = ℕ} 0 1 = cc in omega arith)
     go (gotFrom e′ f q) = let z : e′ ≡ e = cc in rw z at f
 
-pub decode-refused : (n t : ℕ) (l : List ℕ) (r : Refusal) → decodeOf n t l ≡ Refused r → r .number ≢ 0
-decode-refused n t l r p = go (outcome n t l)
+read-refused : (n t : ℕ) (l : List ℕ) (r : Refusal) → readOf n t l ≡ Refused r → r .number ≢ 0
+read-refused n t l r p = go (outcome n t l)
   where
     go : Outcome n t l → r .number ≢ 0
     go (refusedBy k h q) = let z : k ≡ r .number = cc in rw z at h
     go (gotFrom e f q) = absurd (let z : _≡_ {A = ℕ} 0 1 = cc in omega arith)
+
+-- ---- refusal 15, of what was read
+module _ (e : Event) where
+  pub diet-fit : startFits e ≡ true → checkDiet (Got e) ≡ Got e
+  unfolding checkDiet
+  diet-fit h = choose-on _ _ _ h
+
+  pub diet-unfit : startFits e ≡ false → checkDiet (Got e) ≡ Refused (record { number = 15 })
+  unfolding checkDiet
+  diet-unfit h = choose-off _ _ _ h
+
+pub diet-refused : (r : Refusal) → checkDiet (Refused r) ≡ Refused r
+unfolding checkDiet
+diet-refused r = refl
+
+-- no record of another kind has one
+others-fit : (a b : ℕ) (m : Message) (x y z u : Bool)
+    → startFits (choose x (Send a b) (choose y (Arrive a b m) (choose z (Close a) (choose u (Crash a) (Suspect a b)))))
+    ≡ true
+unfolding startFits choose
+others-fit a b m true y z u = refl
+others-fit a b m false true z u = refl
+others-fit a b m false false true u = refl
+others-fit a b m false false false true = refl
+others-fit a b m false false false false = refl
+
+-- of a record's kind and value, as the code tests it
+pub start-fits : (kind a b r v : ℕ) → startFits (eventOf kind a b r v) ≡ (not (same kind 1) || dietFits (valueIn v))
+unfolding startFits eventOf
+start-fits kind a b r v = go (is (same kind 1))
+  where
+    go : Is (same kind 1) → startFits (eventOf kind a b r v) ≡ (not (same kind 1) || dietFits (valueIn v))
+    go (on e) = ap startFits (choose-on _ _ _ e) ∙ sym (or-off-l _ _ (ap not e))
+    go (off e) = ap startFits (choose-off _ _ _ e) ∙ others-fit _ _ _ _ _ _ _ ∙ sym (or-mk-l _ _ (ap not e))
+
+-- a record of a known kind: refusal 5, refusal 15, or the event
+module _ (n t kind a b r v : ℕ) (known : oneTo 6 kind ≡ true) where
+  pub checked-unfit : fields n t kind a b r v ≡ false
+      → checkDiet (partsOf n t kind a b r v) ≡ Refused (record { number = 5 })
+  checked-unfit f = ap checkDiet (parts-unfit n t kind a b r v known f) ∙ diet-refused _
+
+  pub checked-diet : fields n t kind a b r v ≡ true → (not (same kind 1) || dietFits (valueIn v)) ≡ false
+      → checkDiet (partsOf n t kind a b r v) ≡ Refused (record { number = 15 })
+  checked-diet f d =
+      ap checkDiet (parts-got n t kind a b r v known f) ∙ diet-unfit _ (start-fits kind (a - 1) (b - 1) r v ∙ d)
+
+  pub checked-got : fields n t kind a b r v ≡ true → (not (same kind 1) || dietFits (valueIn v)) ≡ true
+      → checkDiet (partsOf n t kind a b r v) ≡ Got (eventOf kind (a - 1) (b - 1) r v)
+  checked-got f d =
+      ap checkDiet (parts-got n t kind a b r v known f) ∙ diet-fit _ (start-fits kind (a - 1) (b - 1) r v ∙ d)
+
+-- what is decoded was read, and passes
+pub decode-read : (n t : ℕ) (l : List ℕ) (e : Event) → decodeOf n t l ≡ Got e
+    → (readOf n t l ≡ Got e) × (startFits e ≡ true)
+unfolding decodeOf
+decode-read n t l e p = go (readOf n t l) p
+  where
+    go : (d : Decoded) → checkDiet d ≡ Got e → (d ≡ Got e) × (startFits e ≡ true)
+    go (Got e′) p = fit e′ p (is (startFits e′))
+      where
+        fit : (e′ : Event) → checkDiet (Got e′) ≡ Got e → Is (startFits e′) → (Got e′ ≡ Got e) × (startFits e ≡ true)
+        fit e′ p (on h) =
+            let q : Got e′ ≡ Got e = sym (diet-fit e′ h) ∙ p in
+            let z : e′ ≡ e = cc in (q, rw z at h)
+        fit e′ p (off h) =
+            let q : Refused (record { number = 15 }) ≡ Got e = sym (diet-unfit e′ h) ∙ p in
+            absurd (let z : _≡_ {A = ℕ} 0 1 = cc in omega arith)
+    go (Refused r) p =
+        let q : Refused r ≡ Got e = sym (diet-refused r) ∙ p in
+        absurd (let z : _≡_ {A = ℕ} 0 1 = cc in omega arith)
+
+module _ (n t : ℕ) (l : List ℕ) where
+  pub decode-size : length l ≢ 8 → decodeOf n t l ≡ Refused (record { number = 3 })
+  unfolding decodeOf
+  decode-size h = ap checkDiet (read-size n t l h) ∙ diet-refused _
+
+  pub decode-parts : length l ≡ 8
+      → decodeOf n t l ≡ checkDiet (partsOf n t (getD l 0 0) (getD l 1 0) (getD l 2 0) (getD l 3 0) (valueOf l))
+  unfolding decodeOf
+  decode-parts h = ap checkDiet (read-parts n t l h)
+
+  pub decode-from : (e : Event) → decodeOf n t l ≡ Got e → From n t l e
+  decode-from e p = read-from n t l e (decode-read n t l e p .0)
+
+  -- 3, 4, 5 or 15
+  pub decode-refused : (r : Refusal) → decodeOf n t l ≡ Refused r → r .number ≢ 0
+  unfolding decodeOf
+  decode-refused r p = go (readOf n t l) refl p
+    where
+      unfit : (e : Event) → Is (startFits e) → checkDiet (Got e) ≡ Refused r → r .number ≢ 0
+      unfit e (on h) q =
+          let z : Got e ≡ Refused r = sym (diet-fit e h) ∙ q in
+          absurd (let y : _≡_ {A = ℕ} 0 1 = cc in omega arith)
+      unfit e (off h) q =
+          let z : Refused (record { number = 15 }) ≡ Refused r = sym (diet-unfit e h) ∙ q in
+          let y : 15 ≡ r .number = cc in λ w. omega (arith, y, w)
+
+      go : (d : Decoded) → readOf n t l ≡ d → checkDiet d ≡ Refused r → r .number ≢ 0
+      go (Got e) u q = unfit e (is (startFits e)) q
+      go (Refused r′) u q =
+          let z : Refused r′ ≡ Refused r = sym (diet-refused r′) ∙ q in
+          let y : r′ ≡ r = cc in rw y at (read-refused n t l r′ u)
 
 -- ---- what a decoded event ranges over: processes below n, a sender and a receiver that differ, rounds 1 to t + 1
 unfoldable pub messageIn : ℕ → Message → Type 0
@@ -197,14 +310,19 @@ encodeOf (Close a) = bytesOf 4 (a + 1) 0 0 0
 encodeOf (Crash a) = bytesOf 5 (a + 1) 0 0 0
 encodeOf (Suspect a b) = bytesOf 6 (a + 1) (b + 1) 0 0
 
--- a value has 32 bits
+-- a value has 32 bits, and its diet portions do not exceed its portions
 unfoldable pub valueFits : Event → Type 0
-valueFits (Start a v) = v < 4294967296
+valueFits (Start a v) = (v < 4294967296) × (dietFits (valueIn v) ≡ true)
 valueFits (Send a b) = Unit
 valueFits (Arrive a b m) = Unit
 valueFits (Close a) = Unit
 valueFits (Crash a) = Unit
 valueFits (Suspect a b) = Unit
+
+-- so has 0
+pub zero-fits : (a : ℕ) → valueFits (Start a 0)
+unfolding valueFits portionsOf dietOf
+zero-fits a = (lit< tt, fits-mk 0 0 (omega arith))
 
 -- the digits of v, each quotient taken from the one before
 four : (v a b c : ℕ) → a ≡ v / 256 → b ≡ a / 256 → c ≡ b / 256 → v < 4294967296
@@ -227,42 +345,56 @@ pair-mk n a b p =
     (ap not (same-off (a + 1) (b + 1) (λ e. p .differ (omega (arith, e)))))
 
 -- bytes whose parts pass each test, with a and b given from 0
-decode-bytes : (n t kind a b x r v : ℕ) → b - 1 ≡ x → v < 4294967296 → oneTo 6 kind ≡ true → a < n
+read-bytes : (n t kind a b x r v : ℕ) → b - 1 ≡ x → v < 4294967296 → oneTo 6 kind ≡ true → a < n
     → fieldB n kind (a + 1) b ≡ true
     → fieldR t kind r ≡ true → fieldValue kind v ≡ true
-    → decodeOf n t (bytesOf kind (a + 1) b r v) ≡ Got (eventOf kind a x r v)
+    → readOf n t (bytesOf kind (a + 1) b r v) ≡ Got (eventOf kind a x r v)
 unfolding bytesOf valueOf fields
-decode-bytes n t kind a b x r v e h k l p q w =
-    decode-parts n t (bytesOf kind (a + 1) b r v) refl ∙ ap (partsOf n t kind (a + 1) b r) (digits v h)
+read-bytes n t kind a b x r v e h k l p q w =
+    read-parts n t (bytesOf kind (a + 1) b r v) refl ∙ ap (partsOf n t kind (a + 1) b r) (digits v h)
     ∙ parts-got n t kind (a + 1) b r v k (and-mk _ _ (process-mk n a l) (and-mk _ _ p (and-mk _ _ q w)))
     ∙ ap₂ (λ y z. Got (eventOf kind y z r v)) (omega arith) e
 
--- every event in range is decoded from its bytes
-pub decode-encode : (n t : ℕ) (e : Event) → inRange n t e → valueFits e → decodeOf n t (encodeOf e) ≡ Got e
+-- every event in range is read from its bytes
+read-encode : (n t : ℕ) (e : Event) → inRange n t e → valueFits e → readOf n t (encodeOf e) ≡ Got e
 unfolding inRange valueFits encodeOf fieldB fieldR fieldValue usesB usesR usesValue eventOf messageFrom messageIn same
     below choose _||_
-decode-encode n t (Start a v) h f =
-    decode-bytes n t 1 a 0 0 0 v refl f (one-mk 6 1 (omega arith) (omega arith)) h refl refl refl
-decode-encode n t (Send a b) h f =
-    decode-bytes n t 2 a (b + 1) b 0 0 (omega arith) (lit< tt) (one-mk 6 2 (omega arith) (omega arith)) (h .first)
+read-encode n t (Start a v) h f =
+    read-bytes n t 1 a 0 0 0 v refl (f .0) (one-mk 6 1 (omega arith) (omega arith)) h refl refl refl
+read-encode n t (Send a b) h f =
+    read-bytes n t 2 a (b + 1) b 0 0 (omega arith) (lit< tt) (one-mk 6 2 (omega arith) (omega arith)) (h .first)
     (pair-mk n a b h) refl refl
-decode-encode n t (Arrive a b (Estimate r)) h f =
-    decode-bytes n t 3 a (b + 1) b r 0 (omega arith) (lit< tt) (one-mk 6 3 (omega arith) (omega arith)) (h .0 .first)
+read-encode n t (Arrive a b (Estimate r)) h f =
+    read-bytes n t 3 a (b + 1) b r 0 (omega arith) (lit< tt) (one-mk 6 3 (omega arith) (omega arith)) (h .0 .first)
     (pair-mk n a b (h .0))
     (below-mk r (t + 2) (omega (arith, h .1 .1))) refl
     ∙ ap (λ m. Got (Arrive a b m))
     (choose-off (same r 0) Decision (Estimate r) (same-off r 0 (λ e. omega (arith, h .1 .0))))
-decode-encode n t (Arrive a b Decision) h f =
-    decode-bytes n t 3 a (b + 1) b 0 0 (omega arith) (lit< tt) (one-mk 6 3 (omega arith) (omega arith)) (h .0 .first)
+read-encode n t (Arrive a b Decision) h f =
+    read-bytes n t 3 a (b + 1) b 0 0 (omega arith) (lit< tt) (one-mk 6 3 (omega arith) (omega arith)) (h .0 .first)
     (pair-mk n a b (h .0))
     (below-mk 0 (t + 2) (omega arith)) refl
-decode-encode n t (Close a) h f =
-    decode-bytes n t 4 a 0 0 0 0 refl (lit< tt) (one-mk 6 4 (omega arith) (omega arith)) h refl refl refl
-decode-encode n t (Crash a) h f =
-    decode-bytes n t 5 a 0 0 0 0 refl (lit< tt) (one-mk 6 5 (omega arith) (omega arith)) h refl refl refl
-decode-encode n t (Suspect a b) h f =
-    decode-bytes n t 6 a (b + 1) b 0 0 (omega arith) (lit< tt) (one-mk 6 6 (omega arith) (omega arith)) (h .first)
+read-encode n t (Close a) h f =
+    read-bytes n t 4 a 0 0 0 0 refl (lit< tt) (one-mk 6 4 (omega arith) (omega arith)) h refl refl refl
+read-encode n t (Crash a) h f =
+    read-bytes n t 5 a 0 0 0 0 refl (lit< tt) (one-mk 6 5 (omega arith) (omega arith)) h refl refl refl
+read-encode n t (Suspect a b) h f =
+    read-bytes n t 6 a (b + 1) b 0 0 (omega arith) (lit< tt) (one-mk 6 6 (omega arith) (omega arith)) (h .first)
     (pair-mk n a b h) refl refl
+
+value-start : (e : Event) → valueFits e → startFits e ≡ true
+unfolding valueFits startFits
+value-start (Start a v) f = f .1
+value-start (Send a b) f = refl
+value-start (Arrive a b m) f = refl
+value-start (Close a) f = refl
+value-start (Crash a) f = refl
+value-start (Suspect a b) f = refl
+
+-- and decoded from them
+pub decode-encode : (n t : ℕ) (e : Event) → inRange n t e → valueFits e → decodeOf n t (encodeOf e) ≡ Got e
+unfolding decodeOf
+decode-encode n t e h f = ap checkDiet (read-encode n t e h f) ∙ diet-fit e (value-start e f)
 
 -- they are 8, and each of them is a byte
 pub encode-size : (e : Event) → length (encodeOf e) ≡ 8

@@ -1,35 +1,52 @@
 -- The global data (document 01's sheet): an entry for each process, absent or a value,
 -- and how entries are filled and compared.
-use mathlib.Core.Bool.{Bool, true, false}
+use mathlib.Core.Bool.{Bool, true, false, not}
 use mathlib.Core.List.{List, []}
-use Prim.Native.Nat.{ℕ, zero, suc}
+use Prim.Native.Nat.{ℕ, zero, suc, _/_, _%_}
 use lib.ListN.{getD, set, replicate}
 use Rattle.sets.specs.Lists.{each, every}
 use Rattle.sets.specs.Set.{has, insertOf, unionOf, differenceOf, emptySet}
-use Rattle.sets.specs.Truth.{same, choose}
+use Rattle.sets.specs.Truth.{_&&_, same, below, choose}
 use Rattle.global_data.specs.declared.GlobalData.{GlobalData}
 use Rattle.global_data.specs.declared.Entry.{Entry}
 use Rattle.global_data.specs.declared.Entry.the-variants.{Absent, Value}
 
--- the entry of a present bit and a word: document 01's blank, or a count
+-- ---- a value (request C-15): portions, and the diet portions among them, 16 bits each.
+-- A word holds both, portions in its low half and diet portions in its high half.
+unfoldable pub portionsOf : ℕ → ℕ
+portionsOf w = w % 65536
+
+unfoldable pub dietOf : ℕ → ℕ
+dietOf w = w / 65536
+
+abbrev pub valueIn : ℕ → Entry
+valueIn w = Value (portionsOf w) (dietOf w)
+
+-- ---- entries
+-- the entry of a present bit and a word: document 01's blank, or the value in the word
 abbrev pub entry : Bool → ℕ → Entry
-entry b x = choose b (Value x) Absent
+entry b w = choose b (valueIn w) Absent
 
 unfoldable pub entryOf : GlobalData → ℕ → Entry
 entryOf g k = entry (has (g .present) k) (getD (g .values) k 0)
 
--- absent in both, or one value in both
+-- absent in both, or in both the same portions and the same diet portions
 unfoldable pub sameEntry : Entry → Entry → Bool
 sameEntry Absent Absent = true
-sameEntry Absent (Value w) = false
-sameEntry (Value v) Absent = false
-sameEntry (Value v) (Value w) = same v w
+sameEntry Absent (Value q e) = false
+sameEntry (Value p d) Absent = false
+sameEntry (Value p d) (Value q e) = same p q && same d e
+
+-- what refusal 15 looks at: the diet portions do not exceed the portions. An absent entry has neither.
+unfoldable pub dietFits : Entry → Bool
+dietFits Absent = true
+dietFits (Value p d) = not (below p d)
 
 -- every entry absent
 unfoldable pub nothingOf : GlobalData
 nothingOf = record { present = emptySet; values = replicate 16 0 }
 
--- entry i alone, with the value v
+-- entry i alone, with the value in the word v
 unfoldable pub oneOf : ℕ → ℕ → GlobalData
 oneOf i v = record { present = insertOf emptySet i; values = set (replicate 16 0) i v }
 
@@ -47,7 +64,7 @@ unfoldable pub fillFrom : ℕ → ℕ → (ℕ → GlobalData) → GlobalData �
 fillFrom zero m rows g = g
 fillFrom (suc p) m rows g = choose (has m p) (fillOf (fillFrom p m rows g) (rows p)) (fillFrom p m rows g)
 
--- each entry below n is absent in both, or one value in both
+-- each entry below n is the same in both
 unfoldable pub sameTo : ℕ → GlobalData → GlobalData → Bool
 sameTo n g h = every n (λ k. sameEntry (entryOf g k) (entryOf h k))
 

@@ -1,6 +1,6 @@
 -- Laws of the global data: each entry after filling, where a filled entry comes from, and what it is to be the same.
 -- An entry is read by its present bit, and every law goes by whether that bit is set.
-use mathlib.Core.Path.{_≡_, refl, sym, ap, _∙_}
+use mathlib.Core.Path.{_≡_, refl, sym, ap, ap₂, _∙_}
 use mathlib.Core.Logic.{_⊎_, inl, inr, ⊎-elim}
 use mathlib.Core.Bool.{Bool, true, false, not}
 use Prim.Native.Nat.{ℕ, zero, suc, _+_, _-_, _^_, _≤_, _<_}
@@ -14,27 +14,27 @@ use Rattle.sets.specs.Set.{has}
 use Rattle.sets.specs.TruthLaws as truth
 use Rattle.sets.specs.Truth.{_&&_, _||_, same, choose}
 use Rattle.sets.specs.TruthLaws.{Is, on, off, is, clash, both-ways, choose-on}
-use Rattle.sets.specs.TruthLaws.{choose-off, or-off-r, or-mk-l, or-mk-r, eq-or}
+use Rattle.sets.specs.TruthLaws.{choose-off, or-off-r, or-mk-l, or-mk-r, and-l, and-r, and-mk, eq-or}
 use Rattle.global_data.specs.declared.Entry.{Entry}
 use Rattle.global_data.specs.declared.Entry.the-variants.{Absent, Value}
-use Rattle.global_data.specs.GlobalData.{entry, entryOf, sameEntry, nothingOf, oneOf}
+use Rattle.global_data.specs.GlobalData.{valueIn, entry, entryOf, sameEntry, nothingOf, oneOf}
 use Rattle.global_data.specs.GlobalData.{filledWord, fillOf, fillFrom, sameTo, allSame}
 use Rattle.global_data.specs.declared.GlobalData.{GlobalData}
 
 -- ---- entries
-pub entry-present : (g : GlobalData) (k : ℕ) → has (g .present) k ≡ true → entryOf g k ≡ Value (getD (g .values) k 0)
+pub entry-present : (g : GlobalData) (k : ℕ) → has (g .present) k ≡ true → entryOf g k ≡ valueIn (getD (g .values) k 0)
 unfolding entryOf
-entry-present g k e = choose-on (has (g .present) k) (Value (getD (g .values) k 0)) Absent e
+entry-present g k e = choose-on (has (g .present) k) (valueIn (getD (g .values) k 0)) Absent e
 
 pub entry-absent : (g : GlobalData) (k : ℕ) → has (g .present) k ≡ false → entryOf g k ≡ Absent
 unfolding entryOf
-entry-absent g k e = choose-off (has (g .present) k) (Value (getD (g .values) k 0)) Absent e
+entry-absent g k e = choose-off (has (g .present) k) (valueIn (getD (g .values) k 0)) Absent e
 
 -- an entry is not absent and a value
-pub not-both : {A : Type 0} (e : Entry) (v : ℕ) → e ≡ Absent → e ≡ Value v → A
+pub not-both : {A : Type 0} (e : Entry) (v : ℕ) → e ≡ Absent → e ≡ valueIn v → A
 not-both e v p q = let z : _≡_ {A = ℕ} 0 1 = cc in absurd (omega arith)
 
-pub value-present : (g : GlobalData) (k v : ℕ) → entryOf g k ≡ Value v → has (g .present) k ≡ true
+pub value-present : (g : GlobalData) (k v : ℕ) → entryOf g k ≡ valueIn v → has (g .present) k ≡ true
 value-present g k v e = go (is (has (g .present) k))
   where
     go : Is (has (g .present) k) → has (g .present) k ≡ true
@@ -48,10 +48,13 @@ absent-clear g k e = go (is (has (g .present) k))
     go (on t) = not-both (entryOf g k) (getD (g .values) k 0) e (entry-present g k t)
     go (off f) = f
 
--- an entry is absent or a value, with the equation kept
-pub absent-or : (e : Entry) → (e ≡ Absent) ⊎ ((v : ℕ) × (e ≡ Value v))
-absent-or Absent = inl refl
-absent-or (Value v) = inr (v, refl)
+-- an entry is absent or the value in a word, with the equation kept
+pub absent-or : (g : GlobalData) (k : ℕ) → (entryOf g k ≡ Absent) ⊎ ((v : ℕ) × (entryOf g k ≡ valueIn v))
+absent-or g k = go (is (has (g .present) k))
+  where
+    go : Is (has (g .present) k) → (entryOf g k ≡ Absent) ⊎ ((v : ℕ) × (entryOf g k ≡ valueIn v))
+    go (on t) = inr (getD (g .values) k 0, entry-present g k t)
+    go (off f) = inl (entry-absent g k f)
 
 -- ---- nothing, and one entry
 pub entry-nothing : (k : ℕ) → entryOf nothingOf k ≡ Absent
@@ -66,14 +69,14 @@ one-word : (i v : ℕ) → i < 16 → getD (oneOf i v .values) i 0 ≡ v
 unfolding oneOf
 one-word i v h = getD-set-same (replicate 16 0) i v 0 h
 
-pub entry-one : (i v k : ℕ) → i < 16 → entryOf (oneOf i v) k ≡ choose (same k i) (Value v) Absent
+pub entry-one : (i v k : ℕ) → i < 16 → entryOf (oneOf i v) k ≡ choose (same k i) (valueIn v) Absent
 entry-one i v k h = go (is (same k i))
   where
-    go : Is (same k i) → entryOf (oneOf i v) k ≡ choose (same k i) (Value v) Absent
+    go : Is (same k i) → entryOf (oneOf i v) k ≡ choose (same k i) (valueIn v) Absent
     go (on t) =
         entry-present (oneOf i v) k (present-one i v k ∙ t)
-        ∙ ap Value (rw (truth.same-on k i t) (one-word i v h)) ∙ sym (choose-on (same k i) (Value v) Absent t)
-    go (off f) = entry-absent (oneOf i v) k (present-one i v k ∙ f) ∙ sym (choose-off (same k i) (Value v) Absent f)
+        ∙ ap valueIn (rw (truth.same-on k i t) (one-word i v h)) ∙ sym (choose-on (same k i) (valueIn v) Absent t)
+    go (off f) = entry-absent (oneOf i v) k (present-one i v k ∙ f) ∙ sym (choose-off (same k i) (valueIn v) Absent f)
 
 pub nothing-length : length (nothingOf .values) ≡ 16
 unfolding nothingOf
@@ -87,13 +90,13 @@ one-length i v = length-set (replicate 16 0) i v
 -- an absent entry takes the other
 unfoldable pub orElse : Entry → Entry → Entry
 orElse Absent e = e
-orElse (Value v) e = Value v
+orElse (Value p d) e = Value p d
 
 pub orElse-absent : (d e : Entry) → d ≡ Absent → orElse d e ≡ e
 unfolding orElse
 orElse-absent d e h = rw h
 
-pub orElse-value : (d e : Entry) (v : ℕ) → d ≡ Value v → orElse d e ≡ Value v
+pub orElse-value : (d e : Entry) (v : ℕ) → d ≡ valueIn v → orElse d e ≡ valueIn v
 unfolding orElse
 orElse-value d e v h = rw h
 
@@ -187,24 +190,24 @@ module _ (m : ℕ) (rows : ℕ → GlobalData) (g : GlobalData) where
       p l
 
   -- a value once there is kept
-  pub fill-later : (q p k v : ℕ) → k < 16 → q ≤ p → entryOf (fillFrom q m rows g) k ≡ Value v
-      → entryOf (fillFrom p m rows g) k ≡ Value v
+  pub fill-later : (q p k v : ℕ) → k < 16 → q ≤ p → entryOf (fillFrom q m rows g) k ≡ valueIn v
+      → entryOf (fillFrom p m rows g) k ≡ valueIn v
   fill-later q p k v b l h = go (p - q) p (omega arith)
     where
-      step : (p : ℕ) → Is (has m p) → entryOf (fillFrom p m rows g) k ≡ Value v
-          → entryOf (fillFrom (suc p) m rows g) k ≡ Value v
+      step : (p : ℕ) → Is (has m p) → entryOf (fillFrom p m rows g) k ≡ valueIn v
+          → entryOf (fillFrom (suc p) m rows g) k ≡ valueIn v
       step p (on e) ih =
           ap (λ (f : GlobalData). entryOf f k) (fillFrom-on p e) ∙ entry-fill (fillFrom p m rows g) (rows p) k b
           ∙ orElse-value (entryOf (fillFrom p m rows g) k) (entryOf (rows p) k) v ih
       step p (off e) ih = ap (λ (f : GlobalData). entryOf f k) (fillFrom-off p e) ∙ ih
 
-      go : (d p : ℕ) → p ≡ q + d → entryOf (fillFrom p m rows g) k ≡ Value v
+      go : (d p : ℕ) → p ≡ q + d → entryOf (fillFrom p m rows g) k ≡ valueIn v
       go zero p e = let e′ : p ≡ q = omega arith in rw e′ h
       go (suc d) p e =
           let e′ : p ≡ suc (q + d) = omega arith in
           rw e′ (step (q + d) (is (has m (q + d))) (go d (q + d) refl))
 
-  pub fill-keeps : (p k v : ℕ) → k < 16 → entryOf g k ≡ Value v → entryOf (fillFrom p m rows g) k ≡ Value v
+  pub fill-keeps : (p k v : ℕ) → k < 16 → entryOf g k ≡ valueIn v → entryOf (fillFrom p m rows g) k ≡ valueIn v
   unfolding fillFrom
   fill-keeps p k v b h = fill-later 0 p k v b (omega arith) h
 
@@ -244,23 +247,23 @@ pub record Lowest (m : ℕ) (rows : ℕ → GlobalData) (g : GlobalData) (p k v 
   pub who : ℕ
   pub low : who < p
   pub member : has m who ≡ true
-  pub shows : entryOf (rows who) k ≡ Value v
+  pub shows : entryOf (rows who) k ≡ valueIn v
   pub lacks : entryOf g k ≡ Absent
   pub none-before : (q : ℕ) → q < who → has m q ≡ true → entryOf (rows q) k ≡ Absent
 
 module _ (m : ℕ) (rows : ℕ → GlobalData) (g : GlobalData) where
   -- where a value comes from
-  pub fill-comes : (p k v : ℕ) → k < 16 → entryOf (fillFrom p m rows g) k ≡ Value v
-      → (entryOf g k ≡ Value v) ⊎ Lowest m rows g p k v
+  pub fill-comes : (p k v : ℕ) → k < 16 → entryOf (fillFrom p m rows g) k ≡ valueIn v
+      → (entryOf g k ≡ valueIn v) ⊎ Lowest m rows g p k v
   fill-comes p k v b =
       fillFrom-ind m rows g
-      (λ (q : ℕ) (f : GlobalData). entryOf f k ≡ Value v → (entryOf g k ≡ Value v) ⊎ Lowest m rows g q k v)
+      (λ (q : ℕ) (f : GlobalData). entryOf f k ≡ valueIn v → (entryOf g k ≡ valueIn v) ⊎ Lowest m rows g q k v)
       inl (λ q ih e h. filled q e ih (sym (entry-fill (fillFrom q m rows g) (rows q) k b) ∙ h)
-      (absent-or (entryOf (fillFrom q m rows g) k)))
+      (absent-or (fillFrom q m rows g) k))
       (λ q ih e h. more q (ih h)) p
     where
-      more : (q : ℕ) → (entryOf g k ≡ Value v) ⊎ Lowest m rows g q k v
-          → (entryOf g k ≡ Value v) ⊎ Lowest m rows g (suc q) k v
+      more : (q : ℕ) → (entryOf g k ≡ valueIn v) ⊎ Lowest m rows g q k v
+          → (entryOf g k ≡ valueIn v) ⊎ Lowest m rows g (suc q) k v
       more q (inl h) = inl h
       more q (inr w) =
           inr record {
@@ -273,10 +276,10 @@ module _ (m : ℕ) (rows : ℕ → GlobalData) (g : GlobalData) where
           }
 
       filled : (q : ℕ) → has m q ≡ true
-          → (entryOf (fillFrom q m rows g) k ≡ Value v → (entryOf g k ≡ Value v) ⊎ Lowest m rows g q k v)
-          → orElse (entryOf (fillFrom q m rows g) k) (entryOf (rows q) k) ≡ Value v
-          → (entryOf (fillFrom q m rows g) k ≡ Absent) ⊎ ((w : ℕ) × (entryOf (fillFrom q m rows g) k ≡ Value w))
-          → (entryOf g k ≡ Value v) ⊎ Lowest m rows g (suc q) k v
+          → (entryOf (fillFrom q m rows g) k ≡ valueIn v → (entryOf g k ≡ valueIn v) ⊎ Lowest m rows g q k v)
+          → orElse (entryOf (fillFrom q m rows g) k) (entryOf (rows q) k) ≡ valueIn v
+          → (entryOf (fillFrom q m rows g) k ≡ Absent) ⊎ ((w : ℕ) × (entryOf (fillFrom q m rows g) k ≡ valueIn w))
+          → (entryOf g k ≡ valueIn v) ⊎ Lowest m rows g (suc q) k v
       filled q e ih h (inl a) =
           inr record {
             who = q;
@@ -291,7 +294,7 @@ module _ (m : ℕ) (rows : ℕ → GlobalData) (g : GlobalData) where
           (ih (w .1 ∙ sym (orElse-value (entryOf (fillFrom q m rows g) k) (entryOf (rows q) k) (w .0) (w .1)) ∙ h))
 
   -- and it is that member's value
-  pub fill-lowest : (p k v : ℕ) → k < 16 → Lowest m rows g p k v → entryOf (fillFrom p m rows g) k ≡ Value v
+  pub fill-lowest : (p k v : ℕ) → k < 16 → Lowest m rows g p k v → entryOf (fillFrom p m rows g) k ≡ valueIn v
   fill-lowest p k v b w =
       let q = w .who in
       fill-later m rows g (suc q) p k v b (w .low)
@@ -305,14 +308,15 @@ module _ (m : ℕ) (rows : ℕ → GlobalData) (g : GlobalData) where
 pub sameEntry-on : (d e : Entry) → sameEntry d e ≡ true → d ≡ e
 unfolding sameEntry
 sameEntry-on Absent Absent h = refl
-sameEntry-on Absent (Value w) h = clash false h refl
-sameEntry-on (Value v) Absent h = clash false h refl
-sameEntry-on (Value v) (Value w) h = ap Value (truth.same-on v w h)
+sameEntry-on Absent (Value q e) h = clash false h refl
+sameEntry-on (Value p d) Absent h = clash false h refl
+sameEntry-on (Value p d) (Value q e) h =
+    ap₂ Value (truth.same-on p q (and-l _ _ h)) (truth.same-on d e (and-r _ _ h))
 
 pub sameEntry-refl : (e : Entry) → sameEntry e e ≡ true
 unfolding sameEntry
 sameEntry-refl Absent = refl
-sameEntry-refl (Value v) = truth.same-refl v
+sameEntry-refl (Value p d) = and-mk _ _ (truth.same-refl p) (truth.same-refl d)
 
 module _ (n : ℕ) (g h : GlobalData) where
   pub same-on : sameTo n g h ≡ true → (k : ℕ) → k < n → entryOf g k ≡ entryOf h k

@@ -4,19 +4,55 @@ ghost use mathlib.Core.Path.{_≡_};
 ghost use Prim.Native.Nat.{_<_, _≤_};
 ghost use Rattle.sets.specs.Truth.{choose};
 ghost use Rattle.global_data.specs.declared.Entry.{Entry};
+ghost use Rattle.global_data.specs.GlobalData.{portionsOf, dietOf, valueIn, dietFits};
 ghost use Rattle.global_data.specs.GlobalData.{entry, sameEntry, nothingOf, oneOf};
 ghost use Rattle.global_data.specs.GlobalData.{fillOf, fillFrom, sameTo, allSame, rowsOf};
 
-// An entry: document 01's blank, or a count.
+// An entry: document 01's blank, or a value: portions, and the diet portions among them.
 pub enum Entry {
     Absent,
-    Value(u32),
+    Value { portions: u16, diet: u16 },
 }
 
+// The word of a present entry has its portions in the low half and its diet portions in the high half.
 #[repr(C)]
 pub struct GlobalData {
     pub present: u16,
     pub values: [u32; 16],
+}
+
+// The portions in a word.
+pub fn portions(word: u32) -> u16
+    ensures { λ r. ⌜ r ≡ portionsOf word ⌝ }
+{
+    (word % 65536) as u16
+}
+
+// The diet portions in a word.
+pub fn diet(word: u32) -> u16
+    ensures { λ r. ⌜ r ≡ dietOf word ⌝ }
+{
+    (word / 65536) as u16
+}
+
+// The value in a word.
+pub fn value_in(word: u32) -> Entry
+    ensures { λ r. ⌜ r ≡ valueIn word ⌝ }
+{
+    Entry::Value {
+        portions: portions(word),
+        diet: diet(word),
+    }
+}
+
+// Whether the diet portions do not exceed the portions; an absent entry has neither.
+pub fn diet_fits(entry: Entry) -> bool
+    ensures { λ r. ⌜ r ≡ dietFits entry ⌝ }
+{
+    match entry {
+        Entry::Absent => true,
+        Entry::Value { portions, diet } => diet <= portions,
+    }
 }
 
 impl GlobalData {
@@ -30,7 +66,7 @@ impl GlobalData {
         }
     }
 
-    // Entry i alone, with the value v.
+    // Entry i alone, with the value in the word v.
     pub fn one(i: usize, v: u32) -> GlobalData
         requires { ⌜ i < 16 ⌝ }
         ensures { λ r. ⌜ r ≡ oneOf i v ⌝ }
@@ -60,7 +96,7 @@ impl GlobalData {
         }
     }
 
-    // Whether each entry below n is absent in both, or one value in both.
+    // Whether each entry below n is the same in both.
     pub fn same(self, other: GlobalData, n: usize) -> bool
         requires { ⌜ n ≤ 16 ⌝ }
         ensures { λ r. ⌜ r ≡ sameTo n self other ⌝ }
@@ -87,7 +123,8 @@ fn pick(b: bool, x: u32, y: u32) -> u32
     if b { x } else { y }
 }
 
-// Two entries, each given by whether it is present and its word.
+// Whether two entries, each given by whether it is present and its word, are the same. Words hold nothing but the two
+// numbers, so that they are compared as one.
 fn same_entry(a: bool, x: u32, b: bool, y: u32) -> bool
     ensures { λ r. ⌜ r ≡ sameEntry (entry a x) (entry b y) ⌝ }
 {

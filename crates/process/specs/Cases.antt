@@ -3,14 +3,15 @@
 use mathlib.Core.Path.{_≡_, refl}
 use mathlib.Core.List.{List, [], _∷_}
 use mathlib.Core.Bool.{Bool, true, false, not}
-use Prim.Native.Nat.{ℕ, zero, suc}
+use Prim.Native.Nat.{ℕ, zero, suc, _+_, _*_}
 use Rattle.sets.specs.Lists.{each, every}
 use Rattle.sets.specs.Set.{has, insertOf, removeOf, unionOf, intersectionOf, differenceOf, allOf}
 use Rattle.sets.specs.Truth.{_&&_, _||_, same, choose}
 use Rattle.global_data.specs.declared.GlobalData.{GlobalData}
 use Rattle.global_data.specs.declared.Entry.{Entry}
 use Rattle.global_data.specs.declared.Entry.the-variants.{Absent, Value}
-use Rattle.global_data.specs.GlobalData.{entryOf, sameEntry, rowsOf, filledWord, fillOf, fillFrom, sameTo, allSame}
+use Rattle.global_data.specs.GlobalData.{portionsOf, dietOf, entryOf, sameEntry, rowsOf}
+use Rattle.global_data.specs.GlobalData.{filledWord, fillOf, fillFrom, sameTo, allSame}
 use Rattle.process.specs.declared.Process.{Process}
 use Rattle.process.specs.declared.Closing.{Closing}
 use Rattle.process.specs.declared.Closing.the-variants.{NextRound, Agreed, LastRound}
@@ -56,9 +57,9 @@ pub record Case : Type 0 where
 dataFrom : ℕ → List Entry → GlobalData
 dataFrom k [] = record { present = 0; values = [] }
 dataFrom k (Absent ∷ l) = let g = dataFrom (suc k) l in record { present = g .present; values = 0 ∷ g .values }
-dataFrom k (Value v ∷ l) =
+dataFrom k (Value p d ∷ l) =
     let g = dataFrom (suc k) l in
-    record { present = insertOf (g .present) k; values = v ∷ g .values }
+    record { present = insertOf (g .present) k; values = (p + 65536 * d) ∷ g .values }
 
 rowsFrom : List (List Entry) → List GlobalData
 rowsFrom [] = []
@@ -120,9 +121,9 @@ agreement t c =
       n = 2;
       t = t;
       a = 0;
-      start = from 1 3 3 0 2 (Value 5 ∷ Value 6 ∷ []);
-      rows = [] ∷ (Value 5 ∷ Value 6 ∷ []) ∷ [];
-      end = to c 1 3 3 2 (Value 5 ∷ Value 6 ∷ []);
+      start = from 1 3 3 0 2 (Value 5 1 ∷ Value 6 0 ∷ []);
+      rows = [] ∷ (Value 5 1 ∷ Value 6 0 ∷ []) ∷ [];
+      end = to c 1 3 3 2 (Value 5 1 ∷ Value 6 0 ∷ []);
     }
 
 -- the sets agree and the arrived row is the new estimate, but its own old one was another: no decision
@@ -132,9 +133,9 @@ ownOld =
       n = 2;
       t = 1;
       a = 0;
-      start = from 1 3 3 0 2 (Value 5 ∷ Absent ∷ []);
-      rows = [] ∷ (Value 5 ∷ Value 6 ∷ []) ∷ [];
-      end = to NextRound 2 3 3 2 (Value 5 ∷ Value 6 ∷ []);
+      start = from 1 3 3 0 2 (Value 5 1 ∷ Absent ∷ []);
+      rows = [] ∷ (Value 5 1 ∷ Value 6 0 ∷ []) ∷ [];
+      end = to NextRound 2 3 3 2 (Value 5 1 ∷ Value 6 0 ∷ []);
     }
 
 -- an estimate arrived and its sender is suspected since: it is in the next set, and fills
@@ -144,9 +145,9 @@ suspectedSender =
       n = 2;
       t = 1;
       a = 0;
-      start = from 1 3 3 2 2 (Value 5 ∷ Absent ∷ []);
-      rows = [] ∷ (Absent ∷ Value 6 ∷ []) ∷ [];
-      end = to NextRound 2 3 3 2 (Value 5 ∷ Value 6 ∷ []);
+      start = from 1 3 3 2 2 (Value 5 1 ∷ Absent ∷ []);
+      rows = [] ∷ (Absent ∷ Value 6 0 ∷ []) ∷ [];
+      end = to NextRound 2 3 3 2 (Value 5 1 ∷ Value 6 0 ∷ []);
     }
 
 -- equal estimates, with previous and next differing: no decision
@@ -156,9 +157,22 @@ setsDiffer =
       n = 3;
       t = 2;
       a = 0;
-      start = from 2 7 3 4 2 (Value 5 ∷ Value 6 ∷ Absent ∷ []);
-      rows = [] ∷ (Value 5 ∷ Value 6 ∷ Absent ∷ []) ∷ [] ∷ [];
-      end = to NextRound 3 3 3 2 (Value 5 ∷ Value 6 ∷ Absent ∷ []);
+      start = from 2 7 3 4 2 (Value 5 1 ∷ Value 6 0 ∷ Absent ∷ []);
+      rows = [] ∷ (Value 5 1 ∷ Value 6 0 ∷ Absent ∷ []) ∷ [] ∷ [];
+      end = to NextRound 3 3 3 2 (Value 5 1 ∷ Value 6 0 ∷ Absent ∷ []);
+    }
+
+-- the sets agree, but in one entry its own estimate and the arrived row differ, in the diet portions alone or in the
+-- portions alone: no decision, and its own entry stays
+valuesDiffer : Entry → Case
+valuesDiffer arrived =
+    record {
+      n = 2;
+      t = 1;
+      a = 0;
+      start = from 1 3 3 0 2 (Value 5 1 ∷ Value 6 0 ∷ []);
+      rows = [] ∷ (Value 5 1 ∷ arrived ∷ []) ∷ [];
+      end = to NextRound 2 3 3 2 (Value 5 1 ∷ Value 6 0 ∷ []);
     }
 
 -- the value 0 in one row and absent in another: these differ, so no decision, and the entry is 0 and present
@@ -169,8 +183,8 @@ zeroOrAbsent own =
       t = 2;
       a = 0;
       start = from 1 7 7 0 6 own;
-      rows = [] ∷ (Value 5 ∷ Value 0 ∷ Value 7 ∷ []) ∷ (Value 5 ∷ Absent ∷ Value 7 ∷ []) ∷ [];
-      end = to NextRound 2 7 7 6 (Value 5 ∷ Value 0 ∷ Value 7 ∷ []);
+      rows = [] ∷ (Value 5 0 ∷ Value 0 0 ∷ Value 7 0 ∷ []) ∷ (Value 5 0 ∷ Absent ∷ Value 7 0 ∷ []) ∷ [];
+      end = to NextRound 2 7 7 6 (Value 5 0 ∷ Value 0 0 ∷ Value 7 0 ∷ []);
     }
 
 -- round t + 1 decides, though sets and estimates differ; the decision is not owed to a suspected process
@@ -180,9 +194,9 @@ lastRound =
       n = 3;
       t = 1;
       a = 0;
-      start = from 2 7 3 4 2 (Value 5 ∷ Absent ∷ Absent ∷ []);
-      rows = [] ∷ (Absent ∷ Value 6 ∷ Absent ∷ []) ∷ [] ∷ [];
-      end = to LastRound 2 7 3 2 (Value 5 ∷ Value 6 ∷ Absent ∷ []);
+      start = from 2 7 3 4 2 (Value 5 1 ∷ Absent ∷ Absent ∷ []);
+      rows = [] ∷ (Absent ∷ Value 6 0 ∷ Absent ∷ []) ∷ [] ∷ [];
+      end = to LastRound 2 7 3 2 (Value 5 1 ∷ Value 6 0 ∷ Absent ∷ []);
     }
 
 -- two rows show an entry that it lacks: the lowest-numbered one whose estimate arrived fills it
@@ -192,23 +206,24 @@ lowest arrived next v =
       n = 3;
       t = 2;
       a = 2;
-      start = from 1 7 7 0 arrived (Absent ∷ Absent ∷ Value 7 ∷ []);
-      rows = (Value 8 ∷ Absent ∷ Absent ∷ []) ∷ (Value 9 ∷ Absent ∷ Absent ∷ []) ∷ [] ∷ [];
-      end = to NextRound 2 7 (insertOf next 2) next (Value v ∷ Absent ∷ Value 7 ∷ []);
+      start = from 1 7 7 0 arrived (Absent ∷ Absent ∷ Value 7 0 ∷ []);
+      rows = (Value 8 0 ∷ Absent ∷ Absent ∷ []) ∷ (Value 9 0 ∷ Absent ∷ Absent ∷ []) ∷ [] ∷ [];
+      end = to NextRound 2 7 (insertOf next 2) next (Value v 0 ∷ Absent ∷ Value 7 0 ∷ []);
     }
 
 pub table : List Case
 table =
     agreement 1 Agreed ∷ agreement 0 LastRound ∷ ownOld ∷ suspectedSender ∷ setsDiffer
-    ∷ zeroOrAbsent (Value 5 ∷ Value 0 ∷ Value 7 ∷ []) ∷ zeroOrAbsent (Value 5 ∷ Absent ∷ Value 7 ∷ []) ∷ lastRound
+    ∷ valuesDiffer (Value 6 2) ∷ valuesDiffer (Value 7 0) ∷ zeroOrAbsent (Value 5 0 ∷ Value 0 0 ∷ Value 7 0 ∷ [])
+    ∷ zeroOrAbsent (Value 5 0 ∷ Absent ∷ Value 7 0 ∷ []) ∷ lastRound
     ∷ lowest 3 3 8 ∷ lowest 2 2 9 ∷ []
 
 -- every case passes: the checker computes it from the definitions
 pub cases : allPass table ≡ true
 unfolding dataFrom rowsFrom word pred processOf sameBool shows passes allPass agreement ownOld suspectedSender
-    setsDiffer zeroOrAbsent lastRound lowest table
+    setsDiffer valuesDiffer zeroOrAbsent lastRound lowest table
     has insertOf removeOf unionOf intersectionOf differenceOf allOf _&&_ _||_ same choose every each
-    entryOf sameEntry filledWord fillOf fillFrom sameTo allSame
+    portionsOf dietOf entryOf sameEntry filledWord fillOf fillFrom sameTo allSame
     hasDecided openRoundOf arrivedOf nextOf peersOf filledOf agreedOf closingOf closingNumber opensNext decidesOf
     owedOf decideOf advanceOf closeOf
 cases = refl

@@ -1,14 +1,17 @@
-// A record's 8 bytes, decoded: kind, a, b, r, then a value, low byte first; refusals 3, 4 and 5.
+// A record's 8 bytes, decoded: kind, a, b, r, then a value, low byte first; refusals 3, 4, 5 and 15.
 use bench::Decoded;
 use bench::Event;
 use bench::Message;
 use bench::Refusal;
+use global_data::diet_fits;
+use global_data::value_in;
 ghost use mathlib.Core.Path.{_≡_};
-ghost use mathlib.Core.Bool.{true};
+ghost use mathlib.Core.Bool.{true, not};
 ghost use Prim.Native.Nat.{_-_};
 ghost use Rattle.bench.specs.Record.{wordOf, usesB, fieldB, fieldR, fieldValue};
-ghost use Rattle.bench.specs.Record.{fields, messageFrom, eventOf, partsOf, decodeOf};
-ghost use Rattle.sets.specs.Truth.{oneTo};
+ghost use Rattle.bench.specs.Record.{fields, messageFrom, eventOf, partsOf, checkDiet, decodeOf};
+ghost use Rattle.global_data.specs.GlobalData.{valueIn, dietFits};
+ghost use Rattle.sets.specs.Truth.{_||_, same, oneTo};
 
 fn word(a: u8, b: u8, c: u8, d: u8) -> u32
     ensures { λ r. ⌜ r ≡ wordOf a b c d ⌝ }
@@ -94,21 +97,30 @@ fn event(kind: u8, a: usize, b: usize, r: u8, v: u32) -> Event
     }
 }
 
+// The diet portions do not exceed the portions, where the record is a start.
+fn diet_ok(kind: u8, v: u32) -> bool
+    ensures { λ r. ⌜ r ≡ (not (same kind 1) || dietFits (valueIn v)) ⌝ }
+{
+    (kind != 1) | diet_fits(value_in(v))
+}
+
 // A record of a kind 1 to 6.
 fn known(n: u8, t: u8, kind: u8, a: u8, b: u8, r: u8, v: u32) -> Decoded
     requires { ⌜ oneTo 6 kind ≡ true ⌝ }
-    ensures { λ res. ⌜ res ≡ partsOf n t kind a b r v ⌝ }
+    ensures { λ res. ⌜ res ≡ checkDiet (partsOf n t kind a b r v) ⌝ }
 {
-    if fields_ok(n, t, kind, a, b, r, v) {
-        Decoded::Got(event(kind, from_zero(a), from_zero(b), r, v))
-    } else {
-        Decoded::Refused(Refusal { number: 5 })
+    if !fields_ok(n, t, kind, a, b, r, v) {
+        return Decoded::Refused(Refusal { number: 5 });
     }
+    if !diet_ok(kind, v) {
+        return Decoded::Refused(Refusal { number: 15 });
+    }
+    Decoded::Got(event(kind, from_zero(a), from_zero(b), r, v))
 }
 
 // By kind first, so that the compiler makes of each kind its own few tests.
 fn parts(n: u8, t: u8, kind: u8, a: u8, b: u8, r: u8, v: u32) -> Decoded
-    ensures { λ res. ⌜ res ≡ partsOf n t kind a b r v ⌝ }
+    ensures { λ res. ⌜ res ≡ checkDiet (partsOf n t kind a b r v) ⌝ }
 {
     match kind {
         1 => known(n, t, 1, a, b, r, v),

@@ -4,7 +4,7 @@ use mathlib.Core.List.{List}
 use Prim.Native.Nat.{ℕ}
 use denote.Ref.{now}
 use lib.ListN.{getD, length}
-use Rattle.bench.specs.Record.{partsOf, decodeOf}
+use Rattle.bench.specs.Record.{partsOf, checkDiet, decodeOf}
 use Rattle.bench.specs.declared.Decoded.{Decoded}
 use Rattle.bench.specs.RecordLaws.{valueOf, decode-size, decode-parts}
 use borrow.Author.Needs.{needs}
@@ -13,7 +13,7 @@ use Rattle.records.proofs.decode.Tie as tie
 
 -- the parts of eight bytes, with their value as it was computed
 read : (n t : ℕ) (l : List ℕ) (v : ℕ) (d : Decoded) → length l ≡ 8 → v ≡ valueOf l
-    → d ≡ partsOf n t (getD l 0 0) (getD l 1 0) (getD l 2 0) (getD l 3 0) v → d ≡ decodeOf n t l
+    → d ≡ checkDiet (partsOf n t (getD l 0 0) (getD l 1 0) (getD l 2 0) (getD l 3 0) v) → d ≡ decodeOf n t l
 read n t l v d h e p = cc (decode-parts n t l h)
 
 returns-2 : tie.Need-returns-2

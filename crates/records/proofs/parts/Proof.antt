@@ -1,10 +1,11 @@
 -- By kind: each that is known goes to `known`, and refusal 4 is the rest.
-use mathlib.Core.Path.{sym}
+use mathlib.Core.Path.{sym, ap, _∙_}
 use mathlib.Core.Logic.{⊎-elim}
 use native.Mathlib.Omega.{arith}
 use Rattle.sets.specs.Truth.{oneTo}
 use Rattle.sets.specs.TruthLaws.{one-mk, and-off-l, and-off-r, below-off, le-or}
-use Rattle.bench.specs.RecordLaws.{parts-unknown}
+use Rattle.bench.specs.Record.{checkDiet}
+use Rattle.bench.specs.RecordLaws.{parts-unknown, diet-refused}
 use Rattle.records.proofs.parts.Statement.{statement}
 use Rattle.records.proofs.parts.Tie as tie
 
@@ -31,11 +32,12 @@ unfolding oneTo
 returns-7 c =
     let k = c .before .args .kind in
     let r = c .match .rest in
-    sym (parts-unknown _ _ _ _ _ _ _
+    sym (ap checkDiet (parts-unknown _ _ _ _ _ _ _
     (⊎-elim (λ h. and-off-r _ _ (below-off _ _ h))
     (λ h. and-off-l _ _
     (below-off _ _ (omega (arith, r .0 .0 .0 .0 .0 .1, r .0 .0 .0 .0 .1, r .0 .0 .0 .1, r .0 .0 .1, r .0 .1, r .1))))
     (le-or 7 k)))
+    ∙ diet-refused _)
 
 pub parts-spec : {M : Type 1} → statement M
 parts-spec = tie.close (tie.spec (λ c κs. one-mk 6 1 (omega arith) (omega arith))

@@ -25,9 +25,9 @@ abbrev pub goMeans : GoAnswer → Answer Bool
 goMeans (go.Go b) = gives b
 goMeans (go.Refused r) = refused (r .number)
 
--- the process, from 1, and its value
+-- the process, from 1, and its portions
 abbrev pub leadMeans : LeadAnswer → Answer Candidate
-leadMeans (lead.Lead p v) = gives (record { process = p; value = v })
+leadMeans (lead.Lead p v) = gives (record { process = p; portions = v })
 leadMeans (lead.Refused r) = refused (r .number)
 
 abbrev pub changeMeans : ChangeAnswer → Answer ℤ

@@ -9,12 +9,12 @@ use Prim.Native.Nat.{ℕ, _-_, _≤_, _<_}
 use native.Mathlib.Omega.{arith}
 use lib.ListN.{getD, length, List·getD-eq-default}
 use Rattle.sets.specs.Lists.{sumTo}
-use Rattle.sets.specs.Set.{has}
+use Rattle.sets.specs.Set.{has, within}
 use Rattle.sets.specs.Truth.{same, oneTo, check}
 use Rattle.sets.specs.TruthLaws.{choose-on, choose-off, Is, is, on, off, le-or}
 use Rattle.global_data.specs.declared.Entry.{Entry}
 use Rattle.aggregates.specs.Answers.{gives}
-use Rattle.aggregates.specs.Entries.{entryAt, standingAt, countsFor}
+use Rattle.aggregates.specs.Entries.{entryAt, standingAt, countsFor, dietsFit}
 use Rattle.aggregates.specs.Leader.{leaderTo}
 use Rattle.aggregates.specs.Aggregates.{refusalOf, unless, total, go, led}
 use Rattle.aggregates.specs.Aggregates.{changed, totalOf, goOf, leadOf, changeOf}
@@ -46,11 +46,11 @@ module _ (n marks : ℕ) (ss ts : List ℕ) (h : Alike (λ i. not (has marks i))
   pub standing-blind : (entries : List ℕ) → totalOf n entries marks ss ≡ totalOf n entries marks ts
   unfolding totalOf
   standing-blind entries =
-      ap (unless (refusalOf n marks true (length entries)))
-      (ap (λ l. unless (check (same l n) 10 0) (gives (total n (standingAt ss) (entryAt entries marks))))
+      ap (λ l. unless (refusalOf n marks true (same l n) entries)
+      (gives (total n (standingAt ss) (entryAt entries marks))))
       (h .long)
-      ∙ ap (λ f. unless (check (same (length ts) n) 10 0) (gives (sumTo n f)))
-      (fun-ext (λ i. counted entries i (is (has marks i)))))
+      ∙ ap (λ f. unless (refusalOf n marks true (same (length ts) n) entries) (gives (sumTo n f)))
+      (fun-ext (λ i. counted entries i (is (has marks i))))
 
 -- entries that agree where a mark is set
 module _ (n marks : ℕ) (xs ys : List ℕ) (h : Alike (has marks) xs ys) where
@@ -65,24 +65,30 @@ module _ (n marks : ℕ) (xs ys : List ℕ) (h : Alike (has marks) xs ys) where
       ap (λ (l : ℕ). f l (entryAt xs marks)) (h .long)
       ∙ ap (f (length ys)) (fun-ext (λ i. entry i (is (has marks i))))
 
+  -- so are the checks
+  abbrev checksOf : Bool → Bool → ℕ → (ℕ → Entry) → ℕ
+  checksOf named stood l entry =
+      check (oneTo 16 n) 1
+      (check (within n marks) 5
+      (check named 5 (check (same l n) 10 (check stood 10 (check (dietsFit n entry) 15 0)))))
+
   pub total-blind : (ss ts : List ℕ) → Alike (λ i. not (has marks i)) ss ts
       → totalOf n xs marks ss ≡ totalOf n ys marks ts
-  unfolding totalOf
+  unfolding totalOf refusalOf
   total-blind ss ts k =
-      blind (λ l entry. unless (refusalOf n marks true l)
-      (unless (check (same (length ss) n) 10 0) (gives (total n (standingAt ss) entry))))
+      blind (λ l entry. unless (checksOf true (same (length ss) n) l entry) (gives (total n (standingAt ss) entry)))
       ∙ standing-blind n marks ss ts k ys
 
   pub go-blind : goOf n xs marks ≡ goOf n ys marks
-  unfolding goOf
-  go-blind = blind (λ l entry. unless (refusalOf n marks true l) (gives (go n entry)))
+  unfolding goOf refusalOf
+  go-blind = blind (λ l entry. unless (checksOf true true l entry) (gives (go n entry)))
 
   pub lead-blind : leadOf n xs marks ≡ leadOf n ys marks
-  unfolding leadOf
-  lead-blind = blind (λ l entry. unless (refusalOf n marks true l) (led (leaderTo n entry)))
+  unfolding leadOf refusalOf
+  lead-blind = blind (λ l entry. unless (checksOf true true l entry) (led (leaderTo n entry)))
 
   pub change-blind : (process standing : ℕ)
       → changeOf n xs marks process standing ≡ changeOf n ys marks process standing
-  unfolding changeOf
+  unfolding changeOf refusalOf
   change-blind process standing =
-      blind (λ l entry. unless (refusalOf n marks (oneTo n process) l) (changed standing (entry (process - 1))))
+      blind (λ l entry. unless (checksOf (oneTo n process) true l entry) (changed standing (entry (process - 1))))

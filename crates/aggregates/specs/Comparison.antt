@@ -14,33 +14,33 @@ use Rattle.aggregates.specs.Leader.{better}
 
 -- a leads before b
 abbrev pub Ahead : Candidate → Candidate → Type 0
-Ahead a b = (b .value < a .value) ⊎ ((b .value ≡ a .value) × (a .process < b .process))
+Ahead a b = (b .portions < a .portions) ⊎ ((b .portions ≡ a .portions) × (a .process < b .process))
 
 -- a does not
 pub record Behind (a b : Candidate) : Type 0 where
-  pub larger : a .value ≤ b .value
-  pub lower : a .value ≡ b .value → b .process ≤ a .process
+  pub larger : a .portions ≤ b .portions
+  pub lower : a .portions ≡ b .portions → b .process ≤ a .process
 
 pub better-on : (a b : Candidate) → better a b ≡ true → Ahead a b
 unfolding better
 better-on a b e =
-    ⊎-elim (λ l. inl (below-on (b .value) (a .value) l))
+    ⊎-elim (λ l. inl (below-on (b .portions) (a .portions) l))
     (λ t. inr (
-      same-on (b .value) (a .value) (and-l (same (b .value) (a .value)) (below (a .process) (b .process)) t),
-      below-on (a .process) (b .process) (and-r (same (b .value) (a .value)) (below (a .process) (b .process)) t),
+      same-on (b .portions) (a .portions) (and-l (same (b .portions) (a .portions)) (below (a .process) (b .process)) t),
+      below-on (a .process) (b .process) (and-r (same (b .portions) (a .portions)) (below (a .process) (b .process)) t),
     ))
-    (or-cases (below (b .value) (a .value)) (same (b .value) (a .value) && below (a .process) (b .process)) e)
+    (or-cases (below (b .portions) (a .portions)) (same (b .portions) (a .portions) && below (a .process) (b .process)) e)
 
 pub better-off : (a b : Candidate) → better a b ≡ false → Behind a b
 unfolding better
 better-off a b e = record {
   larger =
-      below-not (b .value) (a .value)
-      (or-none-l (below (b .value) (a .value)) (same (b .value) (a .value) && below (a .process) (b .process)) e);
-  lower = λ q. ⊎-elim (λ s. absurd (same-not (b .value) (a .value) s (sym q)))
+      below-not (b .portions) (a .portions)
+      (or-none-l (below (b .portions) (a .portions)) (same (b .portions) (a .portions) && below (a .process) (b .process)) e);
+  lower = λ q. ⊎-elim (λ s. absurd (same-not (b .portions) (a .portions) s (sym q)))
       (λ l. below-not (a .process) (b .process) l)
-      (and-cases (same (b .value) (a .value)) (below (a .process) (b .process))
-      (or-none-r (below (b .value) (a .value)) (same (b .value) (a .value) && below (a .process) (b .process)) e));
+      (and-cases (same (b .portions) (a .portions)) (below (a .process) (b .process))
+      (or-none-r (below (b .portions) (a .portions)) (same (b .portions) (a .portions) && below (a .process) (b .process)) e));
 }
 
 pub behind-off : (a b : Candidate) → Behind a b → better a b ≡ false
@@ -60,14 +60,14 @@ better-over a b c e f =
     (better-on b c e))
 
 -- as the code tests it: of equal values by the numbers, of others by the values
-pub better-same : (a b : Candidate) → a .value ≡ b .value → ltb (a .process) (b .process) ≡ better a b
+pub better-same : (a b : Candidate) → a .portions ≡ b .portions → ltb (a .process) (b .process) ≡ better a b
 unfolding better below
 better-same a b e =
-    sym (or-off-l (below (b .value) (a .value)) _ (below-off (b .value) (a .value) (omega arith))
-    ∙ and-on-l (same (b .value) (a .value)) (below (a .process) (b .process)) (same-mk (b .value) (a .value) (sym e)))
+    sym (or-off-l (below (b .portions) (a .portions)) _ (below-off (b .portions) (a .portions) (omega arith))
+    ∙ and-on-l (same (b .portions) (a .portions)) (below (a .process) (b .process)) (same-mk (b .portions) (a .portions) (sym e)))
 
-pub better-other : (a b : Candidate) → (a .value ≡ b .value → ⊥) → ltb (b .value) (a .value) ≡ better a b
+pub better-other : (a b : Candidate) → (a .portions ≡ b .portions → ⊥) → ltb (b .portions) (a .portions) ≡ better a b
 unfolding better below
 better-other a b h =
-    sym (or-off-r (below (b .value) (a .value)) _
-    (and-off-l _ (below (a .process) (b .process)) (same-off (b .value) (a .value) (λ e. h (sym e)))))
+    sym (or-off-r (below (b .portions) (a .portions)) _
+    (and-off-l _ (below (a .process) (b .process)) (same-off (b .portions) (a .portions) (λ e. h (sym e)))))

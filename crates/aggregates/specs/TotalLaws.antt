@@ -1,4 +1,4 @@
--- Laws of the total: its three ends, in the order of its checks; what it is made of; and how great it can be.
+-- Laws of the total: its ends, in the order of its checks; what it is made of; and how great it can be.
 use mathlib.Core.Path.{_≡_, refl, sym, _∙_, ap, fun-ext}
 use mathlib.Core.Bool.{Bool, true, false}
 use mathlib.Core.List.{List}
@@ -7,52 +7,60 @@ use native.Mathlib.Omega.{arith}
 use lib.ListN.{getD, length}
 use Rattle.sets.specs.Lists.{sumTo}
 use Rattle.sets.specs.SumLaws.{sum-add, sum-bound}
-use Rattle.sets.specs.Set.{has}
-use Rattle.sets.specs.Truth.{choose}
-use Rattle.sets.specs.TruthLaws.{choose-by, same-mk, same-off, check-on, check-off}
-use Rattle.global_data.specs.GlobalData.{entry}
+use Rattle.sets.specs.Set.{has, within}
+use Rattle.sets.specs.Truth.{oneTo, choose}
+use Rattle.sets.specs.TruthLaws.{choose-by, same-mk, same-off}
+use Rattle.global_data.specs.GlobalData.{portionsOf, entry}
+use Rattle.global_data.specs.WordLaws.{portions-lt}
 use Rattle.aggregates.specs.Answers.{refused, gives}
-use Rattle.aggregates.specs.Entries.{entryAt, standingAt, countsFor}
+use Rattle.aggregates.specs.Entries.{entryAt, standingAt, countsFor, dietsFit}
 use Rattle.aggregates.specs.Aggregates.{refusalOf, unless, total, totalOf}
-use Rattle.aggregates.specs.Refusals.{turned-away, unless-none}
+use Rattle.aggregates.specs.Refusals.{by-standing, by-diet, by-none, turned-away, unless-none}
 
--- ---- the three ends
+-- ---- the ends, of n from 1 to 16, marks below n and n entries
 
-module _ (n marks : ℕ) (entries standing : List ℕ) where
-  -- what is refused of n, marks and entries, whatever the standing values are
-  pub total-refused : (k : ℕ) → k ≡ refusalOf n marks true (length entries) → (k ≡ 0 → ⊥)
-      → totalOf n entries marks standing ≡ refused k
+module _ (n marks : ℕ) (entries standing : List ℕ) (sized : oneTo 16 n ≡ true) (marked : within n marks ≡ true)
+    (long : length entries ≡ n) where
+  -- a standing list not of n, before any entry is looked at
+  pub total-standing : (length standing ≡ n → ⊥) → totalOf n entries marks standing ≡ refused 10
   unfolding totalOf
-  total-refused k e h = sym (turned-away _ k _ e h)
+  total-standing h =
+      sym (turned-away _ 10 _
+      (sym (by-standing n marks true _ entries sized marked refl long (same-off _ _ h))) (λ z. omega arith))
 
-  -- then a standing list not of n
-  pub total-standing : refusalOf n marks true (length entries) ≡ 0 → (length standing ≡ n → ⊥)
-      → totalOf n entries marks standing ≡ refused 10
+  -- then an entry with more diet portions than portions
+  pub total-diet : length standing ≡ n → dietsFit n (entryAt entries marks) ≡ false
+      → totalOf n entries marks standing ≡ refused 15
   unfolding totalOf
-  total-standing e h =
-      unless-none _ _ e ∙ sym (turned-away _ 10 _ (sym (check-off _ _ _ (same-off _ _ h))) (λ z. omega arith))
+  total-diet l d =
+      sym (turned-away _ 15 _
+      (sym (by-diet n marks true _ entries sized marked refl long (same-mk _ _ l) d)) (λ z. omega arith))
 
   -- every other call is answered
-  pub total-given : refusalOf n marks true (length entries) ≡ 0 → length standing ≡ n
+  pub total-given : length standing ≡ n → dietsFit n (entryAt entries marks) ≡ true
       → totalOf n entries marks standing ≡ gives (total n (standingAt standing) (entryAt entries marks))
   unfolding totalOf
-  total-given e l = unless-none _ _ e ∙ unless-none _ _ (check-on _ _ _ (same-mk _ _ l))
+  total-given l d = unless-none _ _ (by-none n marks true _ entries sized marked refl long (same-mk _ _ l) d)
 
 -- ---- what it is made of
 
+-- the portions in word i
+abbrev pub portionsAt : List ℕ → ℕ → ℕ
+portionsAt entries i = portionsOf (getD entries i 0)
+
 -- what an entry adds, by its mark
 pub counts-is : (entries : List ℕ) (marks i s : ℕ)
-    → countsFor s (entryAt entries marks i) ≡ choose (has marks i) (getD entries i 0) s
+    → countsFor s (entryAt entries marks i) ≡ choose (has marks i) (portionsAt entries i) s
 unfolding entryAt choose
 counts-is entries marks i s = go (has marks i)
   where
-    go : (b : Bool) → countsFor s (entry b (getD entries i 0)) ≡ choose b (getD entries i 0) s
+    go : (b : Bool) → countsFor s (entry b (getD entries i 0)) ≡ choose b (portionsAt entries i) s
     go true = refl
     go false = refl
 
--- the sum of the present entries: 01's total, where an absent one was nought
+-- the portions of the present entries: 01's total, where an absent one was nought
 abbrev pub presentSum : ℕ → List ℕ → ℕ → ℕ
-presentSum n entries marks = sumTo n (λ i. choose (has marks i) (getD entries i 0) 0)
+presentSum n entries marks = sumTo n (λ i. choose (has marks i) (portionsAt entries i) 0)
 
 -- the sum of the standing values of the absent ones
 abbrev pub absentSum : ℕ → List ℕ → ℕ → ℕ
@@ -68,16 +76,16 @@ module _ (n marks : ℕ) (entries standing : List ℕ) where
       ≡ presentSum n entries marks + absentSum n standing marks
   total-parts =
       ap (sumTo n) (fun-ext (λ i. counts-is entries marks i _ ∙ choose-split (has marks i) _ _))
-      ∙ sum-add n (λ i. choose (has marks i) (getD entries i 0) 0) _
+      ∙ sum-add n (λ i. choose (has marks i) (portionsAt entries i) 0) _
 
   -- with standing values all 0 it is the sum of the present ones
   pub total-present : length standing ≡ n → ((i : ℕ) → i < n → standingAt standing i ≡ 0)
       → totalOf n entries marks standing
-      ≡ unless (refusalOf n marks true (length entries)) (gives (presentSum n entries marks))
+      ≡ unless (refusalOf n marks true true entries) (gives (presentSum n entries marks))
   unfolding totalOf
   total-present l z =
-      ap (unless (refusalOf n marks true (length entries)))
-      (unless-none _ _ (check-on _ _ _ (same-mk _ _ l)) ∙ ap gives (omega (arith, total-parts, none)))
+      rw (same-mk _ _ l)
+      (ap (λ v. unless (refusalOf n marks true true entries) (gives v)) (omega (arith, total-parts, none)))
     where
       nought : (i : ℕ) → i < n → choose (has marks i) 0 (standingAt standing i) ≤ 0
       nought i b = choose-by (λ x. x ≤ 0) (has marks i) _ _ (λ e. omega arith) (λ e. omega (arith, z i b))
@@ -87,7 +95,7 @@ module _ (n marks : ℕ) (entries standing : List ℕ) where
 
 -- ---- how great it can be
 
--- sixteen of the largest words
+-- sixteen of the largest standing values
 abbrev pub greatest : ℕ
 greatest = 16 * 4294967295
 
@@ -95,14 +103,14 @@ pub greatest-fits : greatest < 2 ^ 64
 greatest-fits = omega arith
 
 module _ (n marks : ℕ) (entries standing : List ℕ) where
-  -- of words of 32 bits none is greater
-  pub total-most : n ≤ 16 → ((i : ℕ) → i < n → getD entries i 0 < 2 ^ 32)
-      → ((i : ℕ) → i < n → standingAt standing i < 2 ^ 32)
+  -- of standing values of 32 bits none is greater, whatever the entries are
+  pub total-most : n ≤ 16 → ((i : ℕ) → i < n → standingAt standing i < 2 ^ 32)
       → total n (standingAt standing) (entryAt entries marks) ≤ greatest
-  total-most few w s =
+  total-most few s =
       omega (arith, sum-bound n 4294967295 (λ i. countsFor (standingAt standing i) (entryAt entries marks i)) each)
     where
       each : (i : ℕ) → i < n → countsFor (standingAt standing i) (entryAt entries marks i) ≤ 4294967295
       each i l =
           rw (counts-is entries marks i (standingAt standing i))
-          (choose-by (λ x. x ≤ 4294967295) (has marks i) _ _ (λ e. omega (arith, w i l)) (λ e. omega (arith, s i l)))
+          (choose-by (λ x. x ≤ 4294967295) (has marks i) _ _ (λ e. omega (arith, portions-lt (getD entries i 0)))
+          (λ e. omega (arith, s i l)))

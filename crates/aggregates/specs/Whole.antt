@@ -32,7 +32,7 @@ go-whole (go.Refused r) (go.Refused s) e = ap go.Refused (same-refusal r s e)
 
 pub lead-whole : (a b : LeadAnswer) → leadMeans a ≡ leadMeans b → a ≡ b
 lead-whole (lead.Lead p v) (lead.Lead q w) e =
-    ap (λ (c : Candidate). lead.Lead (c .process) (c .value)) (given-candidate _ _ e)
+    ap (λ (c : Candidate). lead.Lead (c .process) (c .portions)) (given-candidate _ _ e)
 lead-whole (lead.Lead p v) (lead.Refused r) e = cc
 lead-whole (lead.Refused r) (lead.Lead p v) e = cc
 lead-whole (lead.Refused r) (lead.Refused s) e = ap lead.Refused (same-refusal r s e)

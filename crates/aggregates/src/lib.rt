@@ -1,6 +1,8 @@
 // Aggregates of global data (document 01: sums of a sheet): of n entries and their present marks, bit i for entry i.
-// No word under an absent entry is read.
+// No word under an absent entry is read. A word holds portions and diet portions, and the aggregates read portions.
 use global_data::Entry;
+use global_data::diet_fits;
+use global_data::value_in;
 use sets::one_to;
 use sets::set_within;
 ghost use mathlib.Core.Path.{_≡_};
@@ -10,7 +12,7 @@ ghost use lib.IntN.{pos, _-ℤ_};
 ghost use Rattle.aggregates.specs.Aggregates.{refusalOf, total, go, led, changed};
 ghost use Rattle.aggregates.specs.Aggregates.{totalOf, goOf, leadOf, changeOf};
 ghost use Rattle.aggregates.specs.Answers.{totalMeans, goMeans, leadMeans, changeMeans};
-ghost use Rattle.aggregates.specs.Entries.{entryAt, standingAt, countsFor, served};
+ghost use Rattle.aggregates.specs.Entries.{entryAt, standingAt, countsFor, served, dietsFit};
 ghost use Rattle.aggregates.specs.Leader.{better, contend, withEntry, leaderTo};
 
 // A refusal, by document 01's number.
@@ -29,7 +31,7 @@ pub enum GoAnswer {
 }
 
 pub enum LeadAnswer {
-    Lead { process: u8, value: u32 },
+    Lead { process: u8, portions: u16 },
     Refused(Refusal),
 }
 
@@ -38,10 +40,10 @@ pub enum ChangeAnswer {
     Refused(Refusal),
 }
 
-// A process, by its number from 1, with its value.
+// A process, by its number from 1, with its portions.
 pub struct Candidate {
     pub process: u8,
-    pub value: u32,
+    pub portions: u16,
 }
 
 // The lead among the entries looked at.
@@ -50,9 +52,36 @@ pub enum Leader {
     Leads(Candidate),
 }
 
-// The number of the first check that fails, or 0. named: the process, where the call uses one, is from 1 to n.
-fn first_refusal(n: u8, marks: u16, named: bool, entries: usize) -> u8
-    ensures { λ r. ⌜ r ≡ refusalOf n marks named entries ⌝ }
+// Entry i, from 0. Its word is read only where its mark is set.
+fn entry_at(entries: &[u32], marks: u16, i: usize) -> Entry
+    requires { ⌜ (i < 16) × (i < length (now entries)) ⌝ }
+    ensures { λ r. ⌜ r ≡ entryAt (now (entries .entry)) marks i ⌝ }
+{
+    if sets::member(marks, i) {
+        value_in(entries[i])
+    } else {
+        Entry::Absent
+    }
+}
+
+// Whether of no present entry the diet portions exceed the portions.
+fn diets_fit(entries: &[u32], marks: u16) -> bool
+    requires { ⌜ length (now entries) ≤ 16 ⌝ }
+    ensures { λ r. ⌜ r ≡ dietsFit (length (now (entries .entry))) (entryAt (now (entries .entry)) marks) ⌝ }
+{
+    let mut ok = true;
+    let mut i = 0;
+    while i < entries.len() {
+        ok = diet_fits(entry_at(entries, marks, i)) & ok;
+        i += 1;
+    }
+    ok
+}
+
+// The number of the first check that fails, or 0. named: the process, where the call uses one, is from 1 to n;
+// stood: the standing values, where the call uses them, are n.
+fn first_refusal(n: u8, marks: u16, named: bool, stood: bool, entries: &[u32]) -> u8
+    ensures { λ r. ⌜ r ≡ refusalOf n marks named stood (now (entries .entry)) ⌝ }
 {
     if !one_to(16, n) {
         return 1;
@@ -63,19 +92,16 @@ fn first_refusal(n: u8, marks: u16, named: bool, entries: usize) -> u8
     if !named {
         return 5;
     }
-    if entries != n as usize { 10 } else { 0 }
-}
-
-// Entry i, from 0. Its word is read only where its mark is set.
-fn entry_at(entries: &[u32], marks: u16, i: usize) -> Entry
-    requires { ⌜ (i < 16) × (i < length (now entries)) ⌝ }
-    ensures { λ r. ⌜ r ≡ entryAt (now (entries .entry)) marks i ⌝ }
-{
-    if sets::member(marks, i) {
-        Entry::Value(entries[i])
-    } else {
-        Entry::Absent
+    if entries.len() != n as usize {
+        return 10;
     }
+    if !stood {
+        return 10;
+    }
+    if !diets_fit(entries, marks) {
+        return 15;
+    }
+    0
 }
 
 // What an entry counts for, of process i, from 0. Its standing value is read only where the entry is absent.
@@ -85,7 +111,7 @@ fn counts_for(standing: &[u32], i: usize, entry: Entry) -> u32
 {
     match entry {
         Entry::Absent => standing[i],
-        Entry::Value(v) => v,
+        Entry::Value { portions, diet: _ } => portions as u32,
     }
 }
 
@@ -108,7 +134,7 @@ fn is_served(entry: Entry) -> bool
 {
     match entry {
         Entry::Absent => false,
-        Entry::Value(v) => 0 < v,
+        Entry::Value { portions, diet: _ } => 0 < portions,
     }
 }
 
@@ -128,10 +154,10 @@ fn all_served(entries: &[u32], marks: u16) -> bool
 fn is_better(a: Candidate, b: Candidate) -> bool
     ensures { λ r. ⌜ r ≡ better a b ⌝ }
 {
-    if a.value == b.value {
+    if a.portions == b.portions {
         a.process < b.process
     } else {
-        b.value < a.value
+        b.portions < a.portions
     }
 }
 
@@ -153,7 +179,10 @@ fn with_entry(leader: Leader, process: u8, entry: Entry) -> Leader
 {
     match entry {
         Entry::Absent => leader,
-        Entry::Value(v) => with_candidate(leader, Candidate { process, value: v }),
+        Entry::Value { portions, diet: _ } => with_candidate(
+            leader,
+            Candidate { process, portions },
+        ),
     }
 }
 
@@ -178,15 +207,15 @@ fn lead_by(leader: Leader) -> LeadAnswer
         Leader::Nobody => LeadAnswer::Refused(Refusal { number: 12 }),
         Leader::Leads(c) => LeadAnswer::Lead {
             process: c.process,
-            value: c.value,
+            portions: c.portions,
         },
     }
 }
 
-fn difference(v: u32, standing: u32) -> i64
-    ensures { λ r. ⌜ r ≡ pos v -ℤ pos standing ⌝ }
+fn difference(portions: u16, standing: u32) -> i64
+    ensures { λ r. ⌜ r ≡ pos portions -ℤ pos standing ⌝ }
 {
-    v as i64 - standing as i64
+    portions as i64 - standing as i64
 }
 
 fn changed_by(standing: u32, entry: Entry) -> ChangeAnswer
@@ -194,51 +223,51 @@ fn changed_by(standing: u32, entry: Entry) -> ChangeAnswer
 {
     match entry {
         Entry::Absent => ChangeAnswer::Refused(Refusal { number: 12 }),
-        Entry::Value(v) => ChangeAnswer::Difference(difference(v, standing)),
+        Entry::Value { portions, diet: _ } => ChangeAnswer::Difference(difference(
+            portions,
+            standing,
+        )),
     }
 }
 
-// The sum of the entries, absent as the standing value of its process.
+// The sum of the portions, of an absent entry the standing value of its process.
 pub fn total(n: u8, entries: &[u32], marks: u16, standing: &[u32]) -> TotalAnswer
     ensures { λ r. ⌜ totalMeans r ≡ totalOf n (now (entries .entry)) marks (now (standing .entry)) ⌝ }
 {
-    let number = first_refusal(n, marks, true, entries.len());
+    let number = first_refusal(n, marks, true, standing.len() == n as usize, entries);
     if number != 0 {
         return TotalAnswer::Refused(Refusal { number });
-    }
-    if standing.len() != n as usize {
-        return TotalAnswer::Refused(Refusal { number: 10 });
     }
     TotalAnswer::Sum(sum(entries, marks, standing))
 }
 
-// Whether no entry is absent and each is at least 1.
+// Whether no entry is absent and each has at least 1 portion.
 pub fn go(n: u8, entries: &[u32], marks: u16) -> GoAnswer
     ensures { λ r. ⌜ goMeans r ≡ goOf n (now (entries .entry)) marks ⌝ }
 {
-    let number = first_refusal(n, marks, true, entries.len());
+    let number = first_refusal(n, marks, true, true, entries);
     if number != 0 {
         return GoAnswer::Refused(Refusal { number });
     }
     GoAnswer::Go(all_served(entries, marks))
 }
 
-// The process with the largest value, ties to the lowest number.
+// The process with the most portions, ties to the lowest number.
 pub fn lead(n: u8, entries: &[u32], marks: u16) -> LeadAnswer
     ensures { λ r. ⌜ leadMeans r ≡ leadOf n (now (entries .entry)) marks ⌝ }
 {
-    let number = first_refusal(n, marks, true, entries.len());
+    let number = first_refusal(n, marks, true, true, entries);
     if number != 0 {
         return LeadAnswer::Refused(Refusal { number });
     }
     lead_by(find_leader(entries, marks))
 }
 
-// The entry of a process, from 1, less a standing value.
+// The portions of a process, from 1, less a standing value.
 pub fn change(n: u8, entries: &[u32], marks: u16, process: u8, standing: u32) -> ChangeAnswer
     ensures { λ r. ⌜ changeMeans r ≡ changeOf n (now (entries .entry)) marks process standing ⌝ }
 {
-    let number = first_refusal(n, marks, one_to(n, process), entries.len());
+    let number = first_refusal(n, marks, one_to(n, process), true, entries);
     if number != 0 {
         return ChangeAnswer::Refused(Refusal { number });
     }

@@ -8,11 +8,14 @@ use Rattle.aggregates.proofs.entry_at.Tie as tie
 
 returns : tie.Need-returns
 unfolding entryAt
-returns c = sym (choose-on _ _ _ (sym (c .before .before .member .ensures) ∙ c .before .if1 .taken))
+returns c =
+    c .value-in .ensures
+    ∙ sym (choose-on _ _ _ (sym (c .before .before .before .member .ensures) ∙ c .before .before .if1 .taken))
 
 returns-2 : tie.Need-returns-2
 unfolding entryAt
 returns-2 c = sym (choose-off _ _ _ (sym (c .before .member .ensures) ∙ c .if1 .left))
 
 pub entry-at-spec : {M : Type 1} → statement M
-entry-at-spec = tie.close (tie.spec (λ c κs. search needs) (λ c. search needs) (λ c. search needs) returns returns-2)
+entry-at-spec = tie.close (tie.spec (λ c κs. search needs) (λ c. search needs) (λ c. search needs)
+    (λ c κs. search needs) returns returns-2)

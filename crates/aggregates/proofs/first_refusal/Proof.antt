@@ -1,47 +1,79 @@
--- `first_refusal` is `refusalOf`: each return is one side of the choice of its check, the checks before it passed.
-use mathlib.Core.Path.{_≡_, sym, _∙_}
-use borrow.Author.Tests.{not-true, not-false}
+-- `first_refusal` is `refusalOf`: each return by the law of its check, the checks before it passed.
+use mathlib.Core.Path.{_≡_, sym, _∙_, ap}
+use mathlib.Core.Bool.{true}
+use Prim.Native.Nat.{_≤_}
+use native.Mathlib.Omega.{arith}
 use borrow.Author.Needs.{needs}
-use Rattle.sets.specs.Truth.{same, check}
-use Rattle.sets.specs.TruthLaws.{check-on, check-off, same-mk, same-off, one-high}
-use Rattle.aggregates.specs.Aggregates.{refusalOf}
-use Rattle.aggregates.specs.Refusals.{past-two}
+use lib.ListN.{length}
+use Rattle.sets.specs.Set.{within}
+use Rattle.sets.specs.Truth.{oneTo}
+use Rattle.sets.specs.TruthLaws.{not-on, not-off, one-high}
+use Rattle.aggregates.specs.Entries.{entryAt, dietsFit}
+use Rattle.aggregates.specs.Refusals.{by-size, by-marks, by-process, by-entries, by-standing, by-diet, by-none}
 use Rattle.aggregates.proofs.first_refusal.Statement.{statement}
 use Rattle.aggregates.proofs.first_refusal.Tie as tie
 
-returns : tie.Need-returns
-unfolding refusalOf
-returns c = sym (check-off _ _ _ (sym (c .before .one-to .ensures) ∙ not-true _ (c .if1 .taken)))
+-- ---- what the first two checks leave
+sized : (c : tie.Else1) → oneTo 16 (c .before .before .before .args .n) ≡ true
+sized c = sym (c .before .one-to .ensures) ∙ not-off _ (c .if1 .left)
 
-set-within-requires : tie.Need-set-within-requires
-set-within-requires c κs = one-high 16 _ (sym (c .before .one-to .ensures) ∙ not-false _ (c .if1 .left))
+marked : (c : tie.Else2) → let a = c .before .before .before .before .before .args in within (a .n) (a .marks) ≡ true
+marked c = sym (c .before .set-within .ensures) ∙ not-off _ (c .if2 .left)
+
+-- ---- the returns
+returns : tie.Need-returns
+returns c = sym (by-size _ _ _ _ _ (sym (c .before .one-to .ensures) ∙ not-on _ (c .if1 .taken)))
 
 returns-2 : tie.Need-returns-2
-unfolding refusalOf
 returns-2 c =
-    sym (check-on _ _ _ (sym (c .before .before .before .one-to .ensures) ∙ not-false _ (c .before .before .if1 .left))
-    ∙ check-off _ _ _ (sym (c .before .set-within .ensures) ∙ not-true _ (c .if2 .taken)))
-
-past : (c : tie.Else2)
-    → let a = c .before .before .before .before .args in
-    refusalOf (a .n) (a .marks) (a .named) (a .entries) ≡ check (a .named) 5 (check (same (a .entries) (a .n)) 10 0)
-past c =
-    past-two _ _ _ _ (sym (c .before .before .before .one-to .ensures) ∙ not-false _ (c .before .before .if1 .left))
-    (sym (c .before .set-within .ensures) ∙ not-false _ (c .if2 .left))
+    sym (by-marks _ _ _ _ _ (sized (c .before .before))
+    (sym (c .before .set-within .ensures) ∙ not-on _ (c .if2 .taken)))
 
 returns-3 : tie.Need-returns-3
-returns-3 c = sym (past (c .before) ∙ check-off _ _ _ (not-true _ (c .if3 .taken)))
+returns-3 c =
+    let b = c .before in
+    sym (by-process _ _ _ _ _ (sized (b .before .before)) (marked b) (not-on _ (c .if3 .taken)))
 
 returns-4 : tie.Need-returns-4
 returns-4 c =
-    sym (past (c .before .before) ∙ check-on _ _ _ (not-false _ (c .before .if3 .left))
-    ∙ check-off _ _ _ (same-off _ _ (c .if4 .taken)))
+    let b = c .before .before in
+    sym (by-entries _ _ _ _ _ (sized (b .before .before)) (marked b) (not-off _ (c .before .if3 .left))
+    (c .if4 .taken))
 
 returns-5 : tie.Need-returns-5
 returns-5 c =
-    sym (past (c .before .before) ∙ check-on _ _ _ (not-false _ (c .before .if3 .left))
-    ∙ check-on _ _ _ (same-mk _ _ (c .if4 .left)))
+    let b = c .before .before .before in
+    sym (by-standing _ _ _ _ _ (sized (b .before .before)) (marked b) (not-off _ (c .before .before .if3 .left))
+    (c .before .if4 .left) (not-on _ (c .if5 .taken)))
+
+-- the entries are n, so at most sixteen
+diets-fit-requires : tie.Need-diets-fit-requires
+diets-fit-requires c κs =
+    let b = c .before .before .before in
+    omega (arith, c .before .if4 .left, one-high 16 _ (sized (b .before .before)))
+
+returns-6 : tie.Need-returns-6
+returns-6 c =
+    let d = c .before .before in
+    let b = d .before .before .before in
+    let a = b .before .before .before .before .before .args in
+    let l = d .before .if4 .left in
+    sym (by-diet _ _ _ _ _ (sized (b .before .before)) (marked b) (not-off _ (d .before .before .if3 .left)) l
+    (not-off _ (d .if5 .left))
+    (ap (λ m. dietsFit m (entryAt (a .entries .now) (a .marks))) (sym l) ∙ sym (c .before .diets-fit .ensures)
+    ∙ not-on _ (c .if6 .taken)))
+
+returns-7 : tie.Need-returns-7
+returns-7 c =
+    let d = c .before .before in
+    let b = d .before .before .before in
+    let a = b .before .before .before .before .before .args in
+    let l = d .before .if4 .left in
+    sym (by-none _ _ _ _ _ (sized (b .before .before)) (marked b) (not-off _ (d .before .before .if3 .left)) l
+    (not-off _ (d .if5 .left))
+    (ap (λ m. dietsFit m (entryAt (a .entries .now) (a .marks))) (sym l) ∙ sym (c .before .diets-fit .ensures)
+    ∙ not-off _ (c .if6 .left)))
 
 pub first-refusal-spec : {M : Type 1} → statement M
-first-refusal-spec = tie.close (tie.spec (λ c κs. search needs) returns set-within-requires returns-2 returns-3
-    returns-4 returns-5)
+first-refusal-spec = tie.close (tie.spec (λ c κs. search needs) returns
+    (λ c κs. one-high 16 _ (sized c)) returns-2 returns-3 returns-4 returns-5 diets-fit-requires returns-6 returns-7)

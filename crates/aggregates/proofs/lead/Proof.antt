@@ -13,6 +13,6 @@ pub lead-spec : {M : Type 1} → statement M
 unfolding leadOf
 lead-spec = tie.close (tie.spec (λ c κs. search needs)
     (λ c. turned-away _ _ _ (c .before .first-refusal .ensures) (c .if1 .taken))
-    (λ c κs. few _ _ _ _ _ (c .before .first-refusal .ensures) (c .if1 .left)) (λ c κs. search needs)
-    (λ c. worked _ _ _ _ _ (c .before .before .before .first-refusal .ensures) (c .before .before .if1 .left)
+    (λ c κs. few _ _ _ _ _ _ (c .before .first-refusal .ensures) (c .if1 .left)) (λ c κs. search needs)
+    (λ c. worked _ _ _ _ _ _ (c .before .before .before .first-refusal .ensures) (c .before .before .if1 .left)
     (λ m e. led (leaderTo m e)) _ _ (c .lead-by .ensures ∙ ap led (c .before .find-leader .ensures))))

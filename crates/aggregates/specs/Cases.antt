@@ -145,10 +145,10 @@ readings =
     ∷ []
 
 pub read : map (λ c. record {
-    goes = goOf (c .n) (c .entries) (c .marks);
-    leads = leadOf (c .n) (c .entries) (c .marks);
-    changes = changeOf (c .n) (c .entries) (c .marks) (c .process) (c .standing);
-  }) readings ≡ map (λ c. c .answers) readings
+  goes = goOf (c .n) (c .entries) (c .marks);
+  leads = leadOf (c .n) (c .entries) (c .marks);
+  changes = changeOf (c .n) (c .entries) (c .marks) (c .process) (c .standing);
+}) readings ≡ map (λ c. c .answers) readings
 unfolding portionsOf dietOf dietFits every has within _&&_ _||_ same below oneTo choose check entryAt better leaderTo
     refusalOf unless goOf leadOf changeOf
 read = refl

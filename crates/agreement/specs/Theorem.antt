@@ -14,7 +14,7 @@ use Rattle.sets.specs.Truth.{below}
 use Rattle.sets.specs.TruthLaws.{Is, on, off, is}
 use Rattle.global_data.specs.declared.GlobalData.{GlobalData}
 use Rattle.global_data.specs.declared.Entry.the-variants.{Absent, Value}
-use Rattle.global_data.specs.GlobalData.{entryOf, sameTo}
+use Rattle.global_data.specs.GlobalData.{valueIn, entryOf, sameTo}
 use Rattle.global_data.specs.Laws.{entry-present, entry-absent, value-present, absent-clear, same-mk}
 use Rattle.process.specs.Steps.{hasDecided}
 use Rattle.bench.specs.declared.Shown.the-variants.{Marks, Refused}
@@ -68,7 +68,7 @@ entry-same : (g g′ : GlobalData) (k : ℕ) → has (g .present) k ≡ has (g�
 entry-same g g′ k e f = go (is (has (g .present) k))
   where
     go : Is (has (g .present) k) → entryOf g k ≡ entryOf g′ k
-    go (on u) = entry-present g k u ∙ ap Value (f u) ∙ sym (entry-present g′ k (sym e ∙ u))
+    go (on u) = entry-present g k u ∙ ap valueIn (f u) ∙ sym (entry-present g′ k (sym e ∙ u))
     go (off u) = entry-absent g k u ∙ sym (entry-absent g′ k (sym e ∙ u))
 
 module _ (n t : ℕ) (h : List Event) (A : Account n t h) where
@@ -97,15 +97,15 @@ module _ (n t : ℕ) (h : List Event) (A : Account n t h) where
       same-mk n g g′ (λ k l.
       ap (λ (f : GlobalData). entryOf f k) (sym u) ∙ same-entry x y k l d d′ ∙ ap (λ (f : GlobalData). entryOf f k) u′)
 
-  validity-of : (x k v : ℕ) (g : GlobalData) → outcome n t h x ≡ decidedOn g → entryOf g k ≡ Value v
-      → startedWith h k ≡ Value v
+  validity-of : (x k p d : ℕ) (g : GlobalData) → outcome n t h x ≡ decidedOn g → entryOf g k ≡ Value p d
+      → startedWith h k ≡ Value p d
   unfolding viewOf
-  validity-of x k v g e w =
-      let (d, u) = holds x g e in
-      let w′ : entryOf (processAt (afterHistory n t h) x .estimate) k ≡ Value v = rw u w in
-      let p = value-present _ k v w′ in
-      let E = valid n t _ (good .basic) (good .estimates) (good .decisions) x k d p in
-      A .told .begun k .started (E .1) ∙ ap Value (sym (E .0)) ∙ sym (entry-present _ k p) ∙ w′
+  validity-of x k p d g e w =
+      let (f, u) = holds x g e in
+      let w′ : entryOf (processAt (afterHistory n t h) x .estimate) k ≡ Value p d = rw u w in
+      let o = value-present _ k p d w′ in
+      let E = valid n t _ (good .basic) (good .estimates) (good .decisions) x k f o in
+      A .told .begun k .started (E .1) ∙ ap valueIn (sym (E .0)) ∙ sym (entry-present _ k o) ∙ w′
 
   absence-of : (x k : ℕ) (g : GlobalData) → x < n → k < n → outcome n t h x ≡ decidedOn g → entryOf g k ≡ Absent
       → crashedIn (beforeDecision n t h) k ≡ true
@@ -179,7 +179,7 @@ demand3 n t calls o =
       shows = λ x g out l r e. rw L (shows-of n t h A x g out l r e);
       hides = λ x out l r e. rw L (hides-of n t h A x out l r e);
       agreement = λ x y g g′ l l′. agreement-of n t h A x y g g′;
-      validity = λ x k v g l l′. validity-of n t h A x k v g;
+      validity = λ x k p d g l l′. validity-of n t h A x k p d g;
       absence = absence-of n t h A;
       last-round = λ x l. last-round-of n t h A x;
       early-round = λ x l. omega (arith, early-round-of n t h A x);

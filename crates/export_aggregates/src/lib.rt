@@ -45,6 +45,7 @@ pub extern "C" fn gerzulan_go(n: u8, entries: &[u32], marks: u16, go: &mut u8) -
     }
 }
 
+// The process and its portions.
 #[no_mangle]
 pub extern "C" fn gerzulan_lead(
     n: u8,
@@ -56,15 +57,16 @@ pub extern "C" fn gerzulan_lead(
     ensures { λ r. ⌜ (r ≡ refusalIn (leadOf n (now (entries .entry)) marks))
         × (now (process .exit)
         ≡ wordIn (λ c. c .process) (leadOf n (now (entries .entry)) marks) (now (process .entry)))
-        × (now (value .exit) ≡ wordIn (λ c. c .value) (leadOf n (now (entries .entry)) marks) (now (value .entry))) ⌝ }
+        × (now (value .exit)
+        ≡ wordIn (λ c. c .portions) (leadOf n (now (entries .entry)) marks) (now (value .entry))) ⌝ }
 {
     match aggregates::lead(n, entries, marks) {
         LeadAnswer::Lead {
             process: p,
-            value: v,
+            portions: v,
         } => {
             *process = p;
-            *value = v;
+            *value = v as u32;
             0
         }
         LeadAnswer::Refused(r) => r.number as u32,

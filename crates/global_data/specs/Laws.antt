@@ -31,21 +31,21 @@ unfolding entryOf
 entry-absent g k e = choose-off (has (g .present) k) (valueIn (getD (g .values) k 0)) Absent e
 
 -- an entry is not absent and a value
-pub not-both : {A : Type 0} (e : Entry) (v : ℕ) → e ≡ Absent → e ≡ valueIn v → A
-not-both e v p q = let z : _≡_ {A = ℕ} 0 1 = cc in absurd (omega arith)
+pub not-both : {A : Type 0} (e : Entry) (p d : ℕ) → e ≡ Absent → e ≡ Value p d → A
+not-both e p d f g = let z : _≡_ {A = ℕ} 0 1 = cc in absurd (omega arith)
 
-pub value-present : (g : GlobalData) (k v : ℕ) → entryOf g k ≡ valueIn v → has (g .present) k ≡ true
-value-present g k v e = go (is (has (g .present) k))
+pub value-present : (g : GlobalData) (k p d : ℕ) → entryOf g k ≡ Value p d → has (g .present) k ≡ true
+value-present g k p d e = go (is (has (g .present) k))
   where
     go : Is (has (g .present) k) → has (g .present) k ≡ true
     go (on t) = t
-    go (off f) = not-both (entryOf g k) v (entry-absent g k f) e
+    go (off f) = not-both (entryOf g k) p d (entry-absent g k f) e
 
 pub absent-clear : (g : GlobalData) (k : ℕ) → entryOf g k ≡ Absent → has (g .present) k ≡ false
 absent-clear g k e = go (is (has (g .present) k))
   where
     go : Is (has (g .present) k) → has (g .present) k ≡ false
-    go (on t) = not-both (entryOf g k) (getD (g .values) k 0) e (entry-present g k t)
+    go (on t) = not-both (entryOf g k) _ _ e (entry-present g k t)
     go (off f) = f
 
 -- an entry is absent or the value in a word, with the equation kept

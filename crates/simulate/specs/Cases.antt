@@ -1,4 +1,5 @@
--- Case 4 of document 01, whole: the program's input and output, byte for byte, computed from the definitions.
+-- Case 4 of document 01, whole, with its T lines as request C-15 has them: the program's input and output, byte for
+-- byte, computed from the definitions.
 use mathlib.Core.Path.{_≡_, refl}
 use mathlib.Core.List.{List, [], _∷_}
 use Prim.Native.Nat.{ℕ}
@@ -6,7 +7,7 @@ use lib.Count.{ones}
 use Rattle.sets.specs.Truth.{bit, _&&_, _||_, same, below, choose, oneTo, check}
 use Rattle.sets.specs.Lists.{each, every, everyIn, joined}
 use Rattle.sets.specs.Set.{has, insertOf, removeOf, unionOf, intersectionOf, differenceOf, allOf, sizeOf, within}
-use Rattle.global_data.specs.GlobalData.{entryOf, sameEntry, nothingOf, oneOf}
+use Rattle.global_data.specs.GlobalData.{portionsOf, dietOf, entryOf, sameEntry, dietFits, nothingOf, oneOf}
 use Rattle.global_data.specs.GlobalData.{filledWord, fillOf, fillFrom, sameTo, allSame}
 use Rattle.process.specs.Steps.{idleOf, hasDecided, takesPart, openRoundOf, startOf, keeps, receiveOf}
 use Rattle.process.specs.Steps.{arrivedOf, dueOf, nextOf, peersOf, filledOf, agreedOf, closingOf, closingNumber}
@@ -16,7 +17,8 @@ use Rattle.bench.specs.State.{processAt, sentAt, transitAt, crashedAt, withProc
 use Rattle.bench.specs.State.{withSent, withTransit, withCrashed, openedOf}
 use Rattle.bench.specs.Sound.{opens, soundData, soundProcess, soundOf}
 use Rattle.bench.specs.Record.{wordOf, usesB, usesR, usesValue, fieldB, fieldR}
-use Rattle.bench.specs.Record.{fieldValue, fields, messageFrom, eventOf, partsOf, decodeOf}
+use Rattle.bench.specs.Record.{fieldValue, fields, messageFrom, eventOf, partsOf, readOf, startFits}
+use Rattle.bench.specs.Record.{checkDiet, decodeOf}
 use Rattle.bench.specs.Refuse.{numberOf, actor, isCrash, passes7, passes8, passes9, refuses, refusesDecoded, refusal}
 use Rattle.bench.specs.Effect.{opensRound, rowsAt, sends, arrives, closesAs, effect, effectDecoded, effectOf}
 use Rattle.bench.specs.Calls.{openOf as openBench, afterRecord}
@@ -56,19 +58,19 @@ output =
     ∷ 49 ∷ 48 ∷ 32 ∷ 56 ∷ 10
     ∷ 49 ∷ 49 ∷ 32 ∷ 48 ∷ 10
     ∷ 49 ∷ 50 ∷ 32 ∷ 48 ∷ 10
-    ∷ 84 ∷ 32 ∷ 49 ∷ 32 ∷ 50 ∷ 32 ∷ 48 ∷ 32 ∷ 49 ∷ 32 ∷ 52 ∷ 48 ∷ 32 ∷ 50 ∷ 53 ∷ 10
-    ∷ 84 ∷ 32 ∷ 50 ∷ 32 ∷ 49 ∷ 32 ∷ 49 ∷ 32 ∷ 48 ∷ 32 ∷ 45 ∷ 32 ∷ 50 ∷ 53 ∷ 10 ∷ []
+    ∷ 84 ∷ 32 ∷ 49 ∷ 32 ∷ 50 ∷ 32 ∷ 48 ∷ 32 ∷ 49 ∷ 32 ∷ 52 ∷ 48 ∷ 47 ∷ 48 ∷ 32 ∷ 50 ∷ 53 ∷ 47 ∷ 48 ∷ 10
+    ∷ 84 ∷ 32 ∷ 50 ∷ 32 ∷ 49 ∷ 32 ∷ 49 ∷ 32 ∷ 48 ∷ 32 ∷ 45 ∷ 32 ∷ 50 ∷ 53 ∷ 47 ∷ 48 ∷ 10 ∷ []
 
 pub case4 : outputOf input ≡ output
 unfolding input output digits decimal field lineOf entryText processText processesText bit
     openingRefusal unopened openingOf recordsIn answerAt lineAt linesOf afterAll writtenAfter outputOf joined openBench
     restOf recordAt steps
-    has insertOf removeOf unionOf intersectionOf differenceOf allOf sizeOf ones _&&_ _||_ same below choose entryOf
-    sameEntry each every nothingOf oneOf filledWord fillOf fillFrom sameTo allSame idleOf hasDecided takesPart
+    has insertOf removeOf unionOf intersectionOf differenceOf allOf sizeOf ones _&&_ _||_ same below choose
+    portionsOf dietOf entryOf sameEntry dietFits each every nothingOf oneOf filledWord fillOf fillFrom sameTo allSame idleOf hasDecided takesPart
     openRoundOf startOf keeps receiveOf arrivedOf dueOf nextOf peersOf filledOf agreedOf closingOf closingNumber
     opensNext decidesOf owedOf decideOf advanceOf closeOf adoptOf messageOf sendOf suspectOf processAt sentAt
     transitAt crashedAt withProcess withSent withTransit withCrashed openedOf opens everyIn within soundData
     soundProcess soundOf wordOf oneTo usesB usesR usesValue fieldB fieldR fieldValue fields messageFrom eventOf
-    partsOf decodeOf check numberOf actor isCrash passes7 passes8 passes9 refuses refusesDecoded refusal opensRound
+    partsOf readOf startFits checkDiet decodeOf check numberOf actor isCrash passes7 passes8 passes9 refuses refusesDecoded refusal opensRound
     rowsAt sends arrives closesAs effect effectDecoded effectOf afterRecord
 case4 = refl

@@ -33,10 +33,10 @@ newline = 10 ∷ []
 unfoldable pub lineOf : ℕ → ℕ → List ℕ
 lineOf k refusal = decimal k ++ (field refusal ++ newline)
 
--- an entry after a space; `-` is an absent one
+-- an entry after a space: `-` is an absent one, and `40/3` has 40 portions and 3 diet portions
 unfoldable pub entryText : Entry → List ℕ
 entryText Absent = 32 ∷ 45 ∷ []
-entryText (Value v) = field v
+entryText (Value p d) = field p ++ ((47 ∷ []) ++ decimal d)
 
 -- the line of process a, from 0, of n: `T`, its number from 1, round, stopped, decided,
 -- and the entries of its estimate, which is its decision once it has decided

@@ -11,7 +11,7 @@ use lib.ListN.{length, set, length-append}
 use Rattle.sets.specs.TruthLaws.{choose-on, choose-off, below-mk, below-off, le-or}
 use Rattle.sets.specs.Lists.{joined}
 use Rattle.bench.specs.TransitLaws.{Stores, stores-none, stores-length, stores-more}
-use Rattle.text.specs.Text.{digits, decimal}
+use Rattle.text.specs.Text.{digits, decimal, field}
 
 -- ---- digits
 digits-low : (k x : ℕ) → x < 10 → digits (suc k) x ≡ (48 + x) ∷ []
@@ -93,9 +93,16 @@ module _ (m : ℕ) (f : ℕ → List ℕ) {out out₁ : List ℕ} {at at₁ : �
       let g : suc k ≤ n = omega arith in
       omega (arith, p .short, puts-length p, mul-suc m k, mul-le-mul-left m g)
 
--- the digits of a number of 64 bits, and of 32 bits
+-- the digits of a number of 64 bits, of 32 bits and of 16 bits
 pub long-number : (x : ℕ) → x < 2 ^ 64 → length (decimal x) ≤ 20
 long-number x h = decimal-length 19 x (omega arith)
 
 pub short-number : (x : ℕ) → x < 2 ^ 32 → length (decimal x) ≤ 10
 short-number x h = decimal-length 9 x (omega arith)
+
+pub half-number : (x : ℕ) → x < 2 ^ 16 → length (decimal x) ≤ 5
+half-number x h = decimal-length 4 x (omega arith)
+
+pub half-field : (x : ℕ) → x < 2 ^ 16 → length (field x) ≤ 6
+unfolding field
+half-field x h = omega (arith, length-append (32 ∷ []) (decimal x), half-number x h)

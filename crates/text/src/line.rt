@@ -4,7 +4,8 @@ ghost use mathlib.Core.List.{[], _∷_};
 ghost use Prim.Native.Nat.{_+_, _≤_, _<_};
 ghost use lib.ListN.{length};
 ghost use Rattle.bench.specs.TransitLaws.{Stores};
-ghost use Rattle.text.specs.Text.{decimal, field, lineOf};
+ghost use Rattle.global_data.specs.declared.Entry.the-variants.{Value};
+ghost use Rattle.text.specs.Text.{decimal, field, entryText, lineOf};
 ghost use Rattle.text.specs.TextLaws.{Puts};
 
 pub fn put_byte(out: &mut [u8], at: usize, b: u8) -> usize
@@ -35,6 +36,16 @@ pub fn put_field(out: &mut [u8], at: usize, x: u32) -> usize
 {
     let p = put_byte(out, at, 32);
     put_number(out, p, x as u64)
+}
+
+// A value after a space: portions and diet portions.
+pub fn put_value(out: &mut [u8], at: usize, portions: u16, diet: u16) -> usize
+    requires { ⌜ at + 12 ≤ length (now out) ⌝ }
+    ensures { λ r. ⌜ Puts 12 (now (out .entry)) at (entryText (Value portions diet)) (now (out .exit)) r ⌝ }
+{
+    let p = put_field(out, at, portions as u32);
+    let q = put_byte(out, p, 47);
+    put_number(out, q, diet as u64)
 }
 
 // The line of record k: its number, and 0 or the refusal.

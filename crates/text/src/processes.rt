@@ -2,8 +2,11 @@
 // which is the decision once it is taken.
 use crate::line::put_byte;
 use crate::line::put_field;
+use crate::line::put_value;
 use bench::Bench;
 use global_data::GlobalData;
+use global_data::diet;
+use global_data::portions;
 use process::Process;
 ghost use mathlib.Core.Path.{_≡_};
 ghost use mathlib.Core.List.{_++_};
@@ -15,12 +18,12 @@ ghost use Rattle.sets.specs.Lists.{joined};
 ghost use Rattle.text.specs.Text.{entryText, processText, processesText};
 ghost use Rattle.text.specs.TextLaws.{Puts};
 
-fn put_entry(out: &mut [u8], at: usize, present: bool, value: u32) -> usize
-    requires { ⌜ at + 11 ≤ length (now out) ⌝ }
-    ensures { λ r. ⌜ Puts 11 (now (out .entry)) at (entryText (entry present value)) (now (out .exit)) r ⌝ }
+fn put_entry(out: &mut [u8], at: usize, present: bool, word: u32) -> usize
+    requires { ⌜ at + 12 ≤ length (now out) ⌝ }
+    ensures { λ r. ⌜ Puts 12 (now (out .entry)) at (entryText (entry present word)) (now (out .exit)) r ⌝ }
 {
     if present {
-        put_field(out, at, value)
+        put_value(out, at, portions(word), diet(word))
     } else {
         let p = put_byte(out, at, 32);
         put_byte(out, p, 45)
@@ -29,9 +32,9 @@ fn put_entry(out: &mut [u8], at: usize, present: bool, value: u32) -> usize
 
 // The entries below n.
 fn put_entries(out: &mut [u8], at: usize, n: u8, g: GlobalData) -> usize
-    requires { ⌜ (n ≤ 16) × (at + 11 * n ≤ length (now out)) ⌝ }
+    requires { ⌜ (n ≤ 16) × (at + 12 * n ≤ length (now out)) ⌝ }
     ensures { λ r.
-        ⌜ Puts (11 * n) (now (out .entry)) at (joined n (λ k. entryText (entryOf g k))) (now (out .exit)) r ⌝ }
+        ⌜ Puts (12 * n) (now (out .entry)) at (joined n (λ k. entryText (entryOf g k))) (now (out .exit)) r ⌝ }
 {
     let present = g.present;
     let mut place = at;
@@ -51,8 +54,8 @@ fn flag(b: bool) -> u32
 
 // Process a, from 0, of n.
 fn put_process(out: &mut [u8], at: usize, n: u8, a: u8, crashed: bool, p: Process) -> usize
-    requires { ⌜ (n ≤ 16) × (at + 222 ≤ length (now out)) ⌝ }
-    ensures { λ r. ⌜ Puts 222 (now (out .entry)) at (processText n a crashed p) (now (out .exit)) r ⌝ }
+    requires { ⌜ (n ≤ 16) × (at + 238 ≤ length (now out)) ⌝ }
+    ensures { λ r. ⌜ Puts 238 (now (out .entry)) at (processText n a crashed p) (now (out .exit)) r ⌝ }
 {
     let g = p.estimate;
     let done = p.has_decided();
@@ -67,7 +70,7 @@ fn put_process(out: &mut [u8], at: usize, n: u8, a: u8, crashed: bool, p: Proces
 
 // A line for each process, at the start of `out`.
 pub fn put_processes(b: Bench, out: &mut [u8]) -> usize
-    requires { ⌜ (b .n ≤ 16) × (222 * 16 ≤ length (now out)) ⌝ }
+    requires { ⌜ (b .n ≤ 16) × (238 * 16 ≤ length (now out)) ⌝ }
     ensures { λ r. ⌜ r ≡ length (processesText b) ⌝ }
     ensures { λ r. ⌜ now (out .exit) ≡ processesText b ++ drop r (now (out .entry)) ⌝ }
 {

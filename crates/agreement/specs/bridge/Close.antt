@@ -13,8 +13,8 @@ use Rattle.sets.specs.TruthLaws.{Is, on, off, is, below-on, clash, both-ways, c
 use Rattle.sets.specs.TruthLaws.{and-l, and-r, and-mk, and-off-l, and-off-r, or-cases, or-off-l}
 use Rattle.sets.specs.TruthLaws.{or-mk-l, not-on, same-on, same-off, same-not, same-refl}
 use Rattle.global_data.specs.declared.GlobalData.{GlobalData}
-use Rattle.global_data.specs.declared.Entry.the-variants.{Value}
-use Rattle.global_data.specs.GlobalData.{entryOf, sameTo, allSame}
+use Rattle.global_data.specs.GlobalData.{valueIn, entryOf, sameTo, allSame}
+use Rattle.global_data.specs.WordLaws.{value-word}
 use Rattle.global_data.specs.Laws.{entry-present, entry-absent, value-present, fill-stays, fill-has, fill-comes}
 use Rattle.global_data.specs.Laws.{Lowest, same-on as same-data-on, same-not as same-data-not, allSame-on, allSame-not}
 use Rattle.process.specs.declared.Process.{Process}
@@ -59,13 +59,13 @@ advancedAt s a = advanceOf a (filledAt s a) (processAt s a)
 
 -- ---- entries, by their present bit and their word
 
-value-is : (g : GlobalData) (k v : ℕ) → entryOf g k ≡ Value v → getD (g .values) k 0 ≡ v
-value-is g k v e = let f = entry-present g k (value-present g k v e) in cc
+value-is : (g : GlobalData) (k v : ℕ) → entryOf g k ≡ valueIn v → getD (g .values) k 0 ≡ v
+value-is g k v e = value-word _ v (sym (entry-present g k (value-present g k _ _ e)) ∙ e)
 
 entry-has : (g h : GlobalData) (k : ℕ) → entryOf g k ≡ entryOf h k → has (g .present) k ≡ has (h .present) k
 entry-has g h k e =
-    both-ways _ _ (λ t. value-present h k _ (sym e ∙ entry-present g k t))
-    (λ t. value-present g k _ (e ∙ entry-present h k t))
+    both-ways _ _ (λ t. value-present h k _ _ (sym e ∙ entry-present g k t))
+    (λ t. value-present g k _ _ (e ∙ entry-present h k t))
 
 entry-differ : (g h : GlobalData) (k : ℕ) → (entryOf g k ≡ entryOf h k → ⊥)
     → Differ (has (g .present) k) (getD (g .values) k 0) (has (h .present) k) (getD (h .values) k 0)
@@ -75,7 +75,7 @@ entry-differ g h k d = go (is (has (g .present) k)) (is (has (h .present) k))
     go : Is (has (g .present) k) → Is (has (h .present) k)
         → (has (g .present) k ≢ has (h .present) k)
         ⊎ ((has (g .present) k ≡ true) × (has (h .present) k ≡ true) × (getD (g .values) k 0 ≢ getD (h .values) k 0))
-    go (on u) (on v) = inr (u, v, λ e. d (entry-present g k u ∙ ap Value e ∙ sym (entry-present h k v)))
+    go (on u) (on v) = inr (u, v, λ e. d (entry-present g k u ∙ ap valueIn e ∙ sym (entry-present h k v)))
     go (on u) (off v) = inl (λ e. clash _ (sym e ∙ u) v)
     go (off u) (on v) = inl (λ e. clash _ (e ∙ v) u)
     go (off u) (off v) = absurd (d (entry-absent g k u ∙ sym (entry-absent h k v)))
@@ -195,15 +195,15 @@ module _ (s : Bench) (c : ℕ → Bool) (K : Bounds s) (B : Basic (s .n) (s .t) 
   unfolding filledOf
   new-from k e = go (fill-comes (peersOf a p) rows (p .estimate) 16 k _ (new-low k e) (entry-present new k e))
     where
-      go : (entryOf (p .estimate) k ≡ Value (getD (new .values) k 0))
+      go : (entryOf (p .estimate) k ≡ valueIn (getD (new .values) k 0))
           ⊎ Lowest (peersOf a p) rows (p .estimate) 16 k (getD (new .values) k 0)
           → RowSource k
-      go (inl u) = inl (value-present (p .estimate) k _ u, sym (value-is (p .estimate) k _ u))
+      go (inl u) = inl (value-present (p .estimate) k _ _ u, sym (value-is (p .estimate) k _ u))
       go (inr w) =
           let m = peer-on (w .who) (w .member) in
           let r = peer-row (w .who) (m .0) (m .1) in
-          let u : entryOf (rowOf s (w .who) q) k ≡ Value (getD (new .values) k 0) = rw r (w .shows) in
-          inr (w .who, m .0, m .1, value-present (rowOf s (w .who) q) k _ u, sym (value-is (rowOf s (w .who) q) k _ u))
+          let u : entryOf (rowOf s (w .who) q) k ≡ valueIn (getD (new .values) k 0) = rw r (w .shows) in
+          inr (w .who, m .0, m .1, value-present (rowOf s (w .who) q) k _ _ u, sym (value-is (rowOf s (w .who) q) k _ u))
 
   -- ---- the test: what holds where it passes before the last round, and which part fails
 

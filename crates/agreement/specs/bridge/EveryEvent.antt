@@ -21,7 +21,7 @@ use Rattle.bench.specs.declared.Event.the-variants.{Start as StartOf, Send as S
 use Rattle.bench.specs.declared.Event.the-variants.{Close as CloseOf, Crash as CrashOf, Suspect as SuspectOf}
 use Rattle.bench.specs.State.{processAt, transitAt, crashedAt}
 use Rattle.bench.specs.Sound.{soundOf}
-use Rattle.bench.specs.RecordLaws.{messageIn, inRange, valueFits}
+use Rattle.bench.specs.RecordLaws.{messageIn, inRange, valueFits, zero-fits}
 use Rattle.bench.specs.Refuse.{actor, numberOf, passes7, passes8, refuses, isCrash}
 use Rattle.bench.specs.RefuseLaws.{passes-mk, ninth-other}
 use Rattle.bench.specs.SoundLaws.{Bounds, process-low, sound-on}
@@ -122,7 +122,7 @@ module _ (s : Bench) (c : ℕ → Bool) (K : Bounds s)
       go : (1 ≤ processAt s a .round) ⊎ (processAt s a .round < 1) → 1 ≤ processAt s a .round
       go (inl l) = l
       go (inr l) =
-          absurd (refused (StartOf a 0) h (lit< tt) refl (passes-mk (StartOf a 0) s record {
+          absurd (refused (StartOf a 0) h (zero-fits a) refl (passes-mk (StartOf a 0) s record {
             running = run;
             pass7 = same-mk _ _ (omega arith);
             pass8 = refl;

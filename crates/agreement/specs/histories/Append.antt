@@ -9,7 +9,7 @@ use native.Mathlib.Omega.{arith}
 use Rattle.sets.specs.Truth.{_||_, same, choose}
 use Rattle.sets.specs.TruthLaws.{Is, on, off, is, clash, choose-on, choose-off, or-mk-l}
 use Rattle.sets.specs.TruthLaws.{or-mk-r, or-off-l, or-none-l, or-none-r, or-cases, eq-or}
-use Rattle.global_data.specs.declared.Entry.the-variants.{Value}
+use Rattle.global_data.specs.GlobalData.{valueIn}
 use Rattle.global_data.specs.Laws.{orElse}
 use Rattle.process.specs.declared.Process.{Process}
 use Rattle.process.specs.Steps.{hasDecided, closeOf}
@@ -101,7 +101,7 @@ started-append [] g k = refl
 started-append (Start a v ∷ h) g k = go (same a k) (started-append h g k)
   where
     go : (b : Bool) → startedWith (h ++ g) k ≡ orElse (startedWith h k) (startedWith g k)
-        → choose b (Value v) (startedWith (h ++ g) k) ≡ orElse (choose b (Value v) (startedWith h k)) (startedWith g k)
+        → choose b (valueIn v) (startedWith (h ++ g) k) ≡ orElse (choose b (valueIn v) (startedWith h k)) (startedWith g k)
     go true ih = refl
     go false ih = ih
 started-append (Send a b ∷ h) g k = started-append h g k

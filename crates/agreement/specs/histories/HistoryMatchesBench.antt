@@ -12,7 +12,8 @@ use Rattle.sets.specs.Laws.{size-empty}
 use Rattle.sets.specs.Truth.{_||_, bit}
 use Rattle.sets.specs.TruthLaws.{choose-on, same-refl, off-by, or-off-r, le-or}
 use Rattle.global_data.specs.declared.Entry.{Entry}
-use Rattle.global_data.specs.declared.Entry.the-variants.{Absent, Value}
+use Rattle.global_data.specs.declared.Entry.the-variants.{Absent}
+use Rattle.global_data.specs.GlobalData.{valueIn}
 use Rattle.global_data.specs.Laws.{orElse-absent, orElse-value}
 use Rattle.process.specs.Steps.{hasDecided}
 use Rattle.bench.specs.declared.Bench.{Bench}
@@ -39,7 +40,7 @@ use Rattle.agreement.specs.histories.InvariantsHold.{Along, Further}
 -- the start of k, as a history has it: none before its first round, then the value that it sent in that round
 pub record Begun (s : Bench) (k : ℕ) (start : Entry) : Type 0 where
   pub unstarted : processAt s k .round ≡ 0 → start ≡ Absent
-  pub started : 1 ≤ processAt s k .round → start ≡ Value (getD (rowOf s k 0 .values) k 0)
+  pub started : 1 ≤ processAt s k .round → start ≡ valueIn (getD (rowOf s k 0 .values) k 0)
 
 pub record Told (n t : ℕ) (h : List Event) : Type 0 where
   pub outcome-is : (x : ℕ) → outcome n t h x ≡ decisionOf (processAt (afterHistory n t h) x)
@@ -79,7 +80,7 @@ start-begins n t h k v N A =
     (sizes-to n t h (λ m u. k < m) (N .range)) (N .passes) in
     rw (reached-next n t h (Start k v)) record {
       unstarted = λ z. absurd (omega (arith, S .round));
-      started = λ l. choose-on _ _ _ (same-refl k) ∙ ap Value (sym (S .entry));
+      started = λ l. choose-on _ _ _ (same-refl k) ∙ ap valueIn (sym (S .entry));
     }
 
 module _ (n t : ℕ) (h : List Event) (e : Event) (N : Next n t h e) (A : Along n t h) (F : Further n t h e A)
@@ -135,7 +136,7 @@ module _ (n t : ℕ) (h : List Event) (e : Event) (N : Next n t h e) (A : Along 
       record {
         unstarted = λ z. absurd (omega (arith, L .0));
         started =
-            λ u. started-append h (e ∷ []) k ∙ orElse-value _ _ _ (T .begun k .started l) ∙ ap Value (sym (L .1));
+            λ u. started-append h (e ∷ []) k ∙ orElse-value _ _ _ (T .begun k .started l) ∙ ap valueIn (sym (L .1));
       }
 
   -- before that it starts by this record, or does not

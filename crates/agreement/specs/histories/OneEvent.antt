@@ -14,7 +14,8 @@ use Rattle.sets.specs.TruthLaws.{Is, on, off, is, choose-on, choose-off, choose
 use Rattle.sets.specs.TruthLaws.{and-off-l, not-on, off-by, or-off-r, same-on, same-mk, same-off, same-refl}
 use Rattle.sets.specs.TruthLaws.{below-on, both-ways, eq-or}
 use Rattle.global_data.specs.declared.GlobalData.{GlobalData}
-use Rattle.global_data.specs.declared.Entry.the-variants.{Absent, Value}
+use Rattle.global_data.specs.declared.Entry.the-variants.{Absent}
+use Rattle.global_data.specs.GlobalData.{valueIn}
 use Rattle.process.specs.declared.Process.{Process}
 use Rattle.process.specs.Steps.{hasDecided, takesPart, openRoundOf, startOf, keeps, receiveOf}
 use Rattle.process.specs.Steps.{decidesOf, decideOf, advanceOf, closeOf, adoptOf, sendOf, suspectOf}
@@ -271,7 +272,7 @@ start-or (Start a v) s k A = go (eq-or a k)
   where
     go : (a ≡ k) ⊎ (a ≢ k)
         → ((u : ℕ) × (Start a v ≡ Start k u))
-        ⊎ ((choose (same a k) (Value v) Absent ≡ Absent)
+        ⊎ ((choose (same a k) (valueIn v) Absent ≡ Absent)
         × (processAt s k .round ≡ 0 → _≡_ {A = ℕ} (choose (same a k) 1 0) 0))
     go (inl w) = inl (v, ap (λ (x : ℕ). Start x v) w)
     go (inr w) = inr (choose-off _ _ _ (same-off a k w), λ z. choose-off _ _ _ (same-off a k w))

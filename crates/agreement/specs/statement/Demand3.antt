@@ -35,12 +35,12 @@ pub record Demand3 (n t : ℕ) (calls : List Call) : Type 0 where
   pub hides : (x : ℕ) (out : List ℕ) → x < n → n ≤ length out → outcome n t (history n t calls) x ≡ undecided
       → (showOf (afterCalls n t calls) (suc x) out ≡ Refused (refused 11))
       × (shownIn (afterCalls n t calls) (suc x) out ≡ out)
-  -- c: agreement, of crashed processes too
+  -- c: agreement, of crashed processes too: absent entries, portions and diet portions are the same
   pub agreement : (x y : ℕ) (g h : GlobalData) → x < n → y < n → outcome n t (history n t calls) x ≡ decidedOn g
       → outcome n t (history n t calls) y ≡ decidedOn h → sameTo n g h ≡ true
-  -- d: validity: a present entry is the value of that process's start
-  pub validity : (x k v : ℕ) (g : GlobalData) → x < n → k < n → outcome n t (history n t calls) x ≡ decidedOn g
-      → entryOf g k ≡ Value v → startedWith (history n t calls) k ≡ Value v
+  -- d: validity: a present entry has the portions p and the diet portions d of that process's start
+  pub validity : (x k p d : ℕ) (g : GlobalData) → x < n → k < n → outcome n t (history n t calls) x ≡ decidedOn g
+      → entryOf g k ≡ Value p d → startedWith (history n t calls) k ≡ Value p d
   -- e: an absent entry only where that process crashed before the first decision
   pub absence : (x k : ℕ) (g : GlobalData) → x < n → k < n → outcome n t (history n t calls) x ≡ decidedOn g
       → entryOf g k ≡ Absent → crashedIn (beforeDecision n t (history n t calls)) k ≡ true

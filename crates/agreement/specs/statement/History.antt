@@ -7,7 +7,8 @@ use lib.ListN.{length, take, drop}
 use Rattle.sets.specs.Truth.{_&&_, _||_, same, bit, choose}
 use Rattle.global_data.specs.declared.GlobalData.{GlobalData}
 use Rattle.global_data.specs.declared.Entry.{Entry}
-use Rattle.global_data.specs.declared.Entry.the-variants.{Absent, Value}
+use Rattle.global_data.specs.declared.Entry.the-variants.{Absent}
+use Rattle.global_data.specs.GlobalData.{valueIn}
 use Rattle.process.specs.declared.Closing.{Closing}
 use Rattle.process.specs.declared.Closing.the-variants.{None}
 use Rattle.process.specs.Steps.{takesPart, filledOf, decidesOf}
@@ -190,10 +191,10 @@ unfoldable pub beforeDecision : ℕ → ℕ → List Event → List Event
 beforeDecision n t h = beforeFrom (openedOf n t) h
 
 -- ---- starts, crashes and rounds in a history
--- the value of the start of k
+-- the value of the start of k, portions and diet portions
 unfoldable pub startedWith : List Event → ℕ → Entry
 startedWith [] k = Absent
-startedWith (Start a v ∷ h) k = choose (same a k) (Value v) (startedWith h k)
+startedWith (Start a v ∷ h) k = choose (same a k) (valueIn v) (startedWith h k)
 startedWith (Send a b ∷ h) k = startedWith h k
 startedWith (Arrive a b m ∷ h) k = startedWith h k
 startedWith (Close a ∷ h) k = startedWith h k

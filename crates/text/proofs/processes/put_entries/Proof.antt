@@ -15,7 +15,7 @@ abbrev textOf : GlobalData → ℕ → List ℕ
 textOf g k = entryText (entryOf g k)
 
 abbrev Inv-loop : tie.InvT-loop
-Inv-loop out₀ at n g present place₀ k₀ out place k = (k ≤ n) × Puts (11 * k) out₀ at (joined k (textOf g)) out place
+Inv-loop out₀ at n g present place₀ k₀ out place k = (k ≤ n) × Puts (12 * k) out₀ at (joined k (textOf g)) out place
 
 abbrev μ-loop : tie.MeasureT-loop
 μ-loop out₀ at n g present place₀ k₀ out place k = n - k
@@ -23,14 +23,14 @@ abbrev μ-loop : tie.MeasureT-loop
 put-entry-requires : tie.Need-put-entry-requires Inv-loop μ-loop
 put-entry-requires c κs =
     let a = c .before .before .before .before .before .before .args in
-    puts-room 11 (textOf (a .t4)) (c .before .before .before .before .loop .inv .1) (a .n)
+    puts-room 12 (textOf (a .t4)) (c .before .before .before .before .loop .inv .1) (a .n)
     (c .before .before .before .loop-test .taken) (c .before .before .before .before .before .before .pre .1)
 
 loop-again : tie.Need-loop-again Inv-loop μ-loop
 unfolding entryOf
 loop-again c = (
   search needs,
-  puts-more 11 (textOf (c .before .before .before .before .before .before .before .before .before .args .t4))
+  puts-more 12 (textOf (c .before .before .before .before .before .before .before .before .before .args .t4))
       (c .before .before .before .before .before .before .before .loop .inv .1)
       (rw (c .before .before .before .before .member .ensures) at (c .before .before .put-entry .ensures)),
 )

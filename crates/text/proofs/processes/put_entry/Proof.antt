@@ -1,4 +1,4 @@
--- A value is a field; an absent entry is a space and `-`.
+-- A value has its two numbers; an absent entry is a space and `-`.
 use native.Mathlib.Omega.{arith}
 use borrow.Author.Needs.{needs}
 use Rattle.sets.specs.Truth.{choose}
@@ -8,8 +8,11 @@ use Rattle.text.proofs.processes.put_entry.Statement.{statement}
 use Rattle.text.proofs.processes.put_entry.Tie as tie
 
 returns : tie.Need-returns
-unfolding choose entryText
-returns c = rw (c .before .before .before .before .if1 .taken) (c .before .before .put-field .ensures)
+unfolding choose
+returns c =
+    let w = c .before .before .before in
+    rw (w .before .before .before .if1 .taken, ← w .before .portions .ensures, ← w .diet .ensures)
+    (c .before .before .put-value .ensures)
 
 returns-2 : tie.Need-returns-2
 unfolding choose entryText
@@ -24,4 +27,4 @@ returns-2 c =
 
 pub put-entry-spec : {M : Type 1} → statement M
 put-entry-spec = tie.close (tie.spec (λ c κs. search needs) (λ c κs. search needs) (λ c κs. search needs)
-    (λ c. search needs) returns (λ c. search needs) returns-2)
+    (λ c κs. search needs) (λ c κs. search needs) (λ c. search needs) returns (λ c. search needs) returns-2)

@@ -20,8 +20,8 @@ at-letter c = at-round c .before .before .before .before .before .before .before
 abbrev at-start : tie.After-put-byte-arg2 → tie.Start
 at-start c = at-letter c .before .before .before .before .before
 
--- what is stored before the line's end takes at most 221 bytes
-so-far : (c : tie.After-put-byte-arg2) → c .before .before .before .put-entries .result ≤ at-start c .args .at + 221
+-- what is stored before the line's end takes at most 237 bytes
+so-far : (c : tie.After-put-byte-arg2) → c .before .before .before .put-entries .result ≤ at-start c .args .at + 237
 so-far c =
     omega (
       arith,

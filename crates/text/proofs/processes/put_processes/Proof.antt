@@ -18,7 +18,7 @@ abbrev textOf : Bench → ℕ → List ℕ
 textOf s a = processText (s .n) a (crashedAt s a) (processAt s a)
 
 abbrev Inv-loop : tie.InvT-loop
-Inv-loop out₀ b n crashed place₀ a₀ out place a = (a ≤ b .n) × Puts (222 * a) out₀ 0 (joined a (textOf b)) out place
+Inv-loop out₀ b n crashed place₀ a₀ out place a = (a ≤ b .n) × Puts (238 * a) out₀ 0 (joined a (textOf b)) out place
 
 abbrev μ-loop : tie.MeasureT-loop
 μ-loop out₀ b n crashed place₀ a₀ out place a = b .n - a
@@ -31,7 +31,7 @@ put-process-requires : tie.Need-put-process-requires Inv-loop μ-loop
 put-process-requires c κs =
     let a = c .before .before .before .before .before .before .args in (
       c .before .before .before .before .before .before .pre .0,
-      puts-room 222 (textOf (a .t1)) (c .before .before .before .before .loop .inv .1) (a .t1 .n)
+      puts-room 238 (textOf (a .t1)) (c .before .before .before .before .loop .inv .1) (a .t1 .n)
           (c .before .before .before .loop-test .taken) (omega (
             arith,
             c .before .before .before .before .before .before .pre .0,
@@ -43,7 +43,7 @@ loop-again : tie.Need-loop-again Inv-loop μ-loop
 unfolding processAt crashedAt
 loop-again c = (
   search needs,
-  puts-more 222 (textOf (c .before .before .before .before .before .before .before .before .before .args .t1))
+  puts-more 238 (textOf (c .before .before .before .before .before .before .before .before .before .args .t1))
       (c .before .before .before .before .before .before .before .loop .inv .1)
       (rw (c .before .before .before .member .ensures) at (c .before .before .put-process .ensures)),
 )

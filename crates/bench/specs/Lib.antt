@@ -3,6 +3,7 @@ pub mod Calls
 pub mod Cases
 pub mod ClosingLaws
 pub mod Closings
+pub mod DietLaws
 pub mod Effect
 pub mod EveryInLaws
 pub mod ListedLaws

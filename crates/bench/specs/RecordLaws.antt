@@ -71,9 +71,9 @@ pub record From (n t : ℕ) (l : List ℕ) (e : Event) : Type 0 where
   pub fit : fields n t (getD l 0 0) (getD l 1 0) (getD l 2 0) (getD l 3 0) (valueOf l) ≡ true
   pub event : e ≡ eventOf (getD l 0 0) (getD l 1 0 - 1) (getD l 2 0 - 1) (getD l 3 0) (valueOf l)
 
--- refused for one of three numbers, or got
+-- refused for one of the numbers 3, 4 and 5, or got
 data Outcome (n t : ℕ) (l : List ℕ) : Type 0 where
-  refusedBy : (k : ℕ) → k ≢ 0 → readOf n t l ≡ Refused (record { number = k }) → Outcome n t l
+  refusedBy : (k : ℕ) → (3 ≤ k) × (k ≤ 5) → readOf n t l ≡ Refused (record { number = k }) → Outcome n t l
   gotFrom : (e : Event) → From n t l e → readOf n t l ≡ Got e → Outcome n t l
 
 outcome : (n t : ℕ) (l : List ℕ) → Outcome n t l
@@ -85,18 +85,18 @@ outcome n t l = sized (is (same (length l) 8))
         gotFrom _ (record { size = h; kind = k; fit = p; event = refl })
         (read-parts n t l h ∙ parts-got n t (getD l 0 0) (getD l 1 0) (getD l 2 0) (getD l 3 0) (valueOf l) k p)
     fitting h k (off p) =
-        refusedBy 5 (omega arith)
+        refusedBy 5 (omega arith, omega arith)
         (read-parts n t l h ∙ parts-unfit n t (getD l 0 0) (getD l 1 0) (getD l 2 0) (getD l 3 0) (valueOf l) k p)
 
     known : length l ≡ 8 → Is (oneTo 6 (getD l 0 0)) → Outcome n t l
     known h (on k) = fitting h k (is (fields n t (getD l 0 0) (getD l 1 0) (getD l 2 0) (getD l 3 0) (valueOf l)))
     known h (off k) =
-        refusedBy 4 (omega arith)
+        refusedBy 4 (omega arith, omega arith)
         (read-parts n t l h ∙ parts-unknown n t (getD l 0 0) (getD l 1 0) (getD l 2 0) (getD l 3 0) (valueOf l) k)
 
     sized : Is (same (length l) 8) → Outcome n t l
     sized (on h) = known (same-on (length l) 8 h) (is (oneTo 6 (getD l 0 0)))
-    sized (off h) = refusedBy 3 (omega arith) (read-size n t l (same-not (length l) 8 h))
+    sized (off h) = refusedBy 3 (omega arith, omega arith) (read-size n t l (same-not (length l) 8 h))
 
 read-from : (n t : ℕ) (l : List ℕ) (e : Event) → readOf n t l ≡ Got e → From n t l e
 read-from n t l e p = go (outcome n t l)
@@ -105,10 +105,11 @@ read-from n t l e p = go (outcome n t l)
     go (refusedBy k h q) = absurd (let z : _≡_ {A = ℕ} 0 1 = cc in omega arith)
     go (gotFrom e′ f q) = let z : e′ ≡ e = cc in rw z at f
 
-read-refused : (n t : ℕ) (l : List ℕ) (r : Refusal) → readOf n t l ≡ Refused r → r .number ≢ 0
+pub read-refused : (n t : ℕ) (l : List ℕ) (r : Refusal) → readOf n t l ≡ Refused r
+    → (3 ≤ r .number) × (r .number ≤ 5)
 read-refused n t l r p = go (outcome n t l)
   where
-    go : Outcome n t l → r .number ≢ 0
+    go : Outcome n t l → (3 ≤ r .number) × (r .number ≤ 5)
     go (refusedBy k h q) = let z : k ≡ r .number = cc in rw z at h
     go (gotFrom e f q) = absurd (let z : _≡_ {A = ℕ} 0 1 = cc in omega arith)
 
@@ -212,7 +213,8 @@ module _ (n t : ℕ) (l : List ℕ) where
       go (Got e) u q = unfit e (is (startFits e)) q
       go (Refused r′) u q =
           let z : Refused r′ ≡ Refused r = sym (diet-refused r′) ∙ q in
-          let y : r′ ≡ r = cc in rw y at (read-refused n t l r′ u)
+          let y : r′ ≡ r = cc in
+          let b = rw y at (read-refused n t l r′ u) in λ w. omega (arith, b .0, w)
 
 -- ---- what a decoded event ranges over: processes below n, a sender and a receiver that differ, rounds 1 to t + 1
 unfoldable pub messageIn : ℕ → Message → Type 0

@@ -181,7 +181,7 @@ fn aggregate(n: u8, marks: u16, process: u8, entries: &[u32]) {
     match lead(n, entries, marks) {
         LeadAnswer::Lead {
             process: _,
-            value: _,
+            portions: _,
         } => say(0),
         LeadAnswer::Refused(r) => say(r.number as u32),
     }
@@ -189,6 +189,21 @@ fn aggregate(n: u8, marks: u16, process: u8, entries: &[u32]) {
         ChangeAnswer::Difference(_) => say(0),
         ChangeAnswer::Refused(r) => say(r.number as u32),
     }
+}
+
+// A value's word, of 8 bits each.
+fn word(portions: u8, diet: u8) -> u32 {
+    portions as u32 + diet as u32 * 65536
+}
+
+// Three entries, as portions and diet portions; the standing values are 50, 60 and 70.
+fn values(l: Line) {
+    let v = l.numbers;
+    let n = v[0];
+    let marks = v[1] as u16;
+    let entries = [word(v[3], v[4]), word(v[5], v[6]), word(v[7], v[8])];
+    aggregate(n, marks, v[2], &entries);
+    say_total(total(n, &entries, marks, &[50, 60, 70]));
 }
 
 fn say_sixteen(numbers: [u8; 16]) {
@@ -242,6 +257,10 @@ pub fn answer(b: Bench, l: Line) -> Bench {
         b'f' => force(b, first),
         b'w' => {
             calendar(l);
+            b
+        }
+        b'v' => {
+            values(l);
             b
         }
         _ => {

@@ -3,7 +3,7 @@
  * The host holds a bench and lends it. No call asks anything of the values: a damaged bench is refused, and `decided` may be any byte. But
  * each pointer is to initialised memory of its type (a bench of all zero will do for `gerzulan_bench_open`), a length is that of the slice
  * before it, and what is lent to be written overlaps nothing else that is given. A refusal leaves all that is lent untouched, but for the
- * tally, a step's closing and a run's progress. Refusals have the numbers of document 01, 1 to 12, and of the requests, 13 and 14. */
+ * tally, a step's closing and a run's progress. Refusals have the numbers of document 01, 1 to 12, and of the requests, 13 to 15. */
 #ifndef GERZULAN_H
 #define GERZULAN_H
 
@@ -14,7 +14,13 @@
 extern "C" {
 #endif
 
-/* The global data: entry i is absent where bit i of `present` is clear. */
+/* A value: portions, and the diet portions among them, each 0 to 65,535, in one word as the record of a start has it, low bytes first:
+ * portions in the low half, diet portions in the high half. */
+#define GERZULAN_VALUE(portions, diet) ((uint32_t)(portions) | (uint32_t)(diet) << 16)
+#define GERZULAN_PORTIONS(value) ((uint16_t)((value) & 65535u))
+#define GERZULAN_DIET(value) ((uint16_t)((value) >> 16))
+
+/* The global data: entry i is absent where bit i of `present` is clear, else it has the value in word i. */
 struct gerzulan_global_data {
     uint16_t present;
     uint32_t values[16];
@@ -66,8 +72,9 @@ struct gerzulan_progress {
 /* Opens a bench in place of *bench. 0, or 1 with *bench as it was. */
 uint32_t gerzulan_bench_open(struct gerzulan_bench *bench, uint8_t n, uint8_t t);
 
-/* One record, with the tally. 0, or its refusal, 2 to 9, with *bench as it was. *closing is written each time: how the round that the record
- * closed ended, or GERZULAN_NO_CLOSE. */
+/* One record, with the tally. 0, or its refusal, 2 to 9 or 15, with *bench as it was. 15, after 5 and before 6, is of a start whose diet
+ * portions exceed its portions; it looks at the record alone, and a bench that holds such an entry is stepped like any other. *closing is
+ * written each time: how the round that the record closed ended, or GERZULAN_NO_CLOSE. */
 uint32_t gerzulan_bench_step(struct gerzulan_bench *bench, const uint8_t *record, size_t length, struct gerzulan_counters *tally,
                              uint8_t *closing);
 
@@ -81,15 +88,17 @@ uint32_t gerzulan_bench_run(struct gerzulan_bench *bench, const uint8_t *schedul
 /* The reading calls give what is asked for, or the number of their refusal in the high half. */
 #define GERZULAN_REFUSAL(answer) ((uint32_t)((answer) >> 32))
 
-/* Writes the n entries that a process, from 1, has decided on, absent as 0, and gives their marks. Refusals 2, 5, 10, 11. */
+/* Writes the values of the n entries that a process, from 1, has decided on, absent as 0, and gives their marks. Refusals 2, 5, 10, 11. */
 uint64_t gerzulan_bench_global_data(const struct gerzulan_bench *bench, uint8_t process, uint32_t *out, size_t length);
 
 /* Writes sender, receiver and round of each message in transit, a byte each, and gives how many there are: by round with decisions first as
  * round 0, then by sender, then by receiver, so that the same messages are the same bytes. Bytes past them stay. Refusals 2, 10. */
 uint64_t gerzulan_bench_in_transit(const struct gerzulan_bench *bench, uint8_t *out, size_t length);
 
-/* Aggregates of n entries with their marks: 0, and the words after them are written; or a refusal, 1, 5, 10 or 12. No word under an absent
- * entry is read. The total is lent n standing values too, one a process, and counts an absent entry as its process's; it reads no other. */
+/* Aggregates of n entries with their marks: 0, and the words after them are written; or a refusal, 1, 5, 10, 15 or 12, in this order: 15
+ * where some present entry has more diet portions than portions. No word under an absent entry is read. What they read of an entry are its
+ * portions: the lead has the most of them, and *value is how many; a change is from -4,294,967,295 to 65,535. The total is lent n standing
+ * values of 32 bits too, one a process, and counts an absent entry as its process's; it reads no other. */
 uint32_t gerzulan_total(uint8_t n, const uint32_t *entries, size_t length, uint16_t marks, const uint32_t *standing,
                         size_t standing_length, uint64_t *sum);
 uint32_t gerzulan_go(uint8_t n, const uint32_t *entries, size_t length, uint16_t marks, uint8_t *go);

@@ -1,7 +1,7 @@
 -- Of any call, refused or not: nothing under an absent entry is read, and no standing value of a present one.
 -- Entries that agree under the present marks have one view, by which each call answers; standing values that agree
 -- where no mark is set add up alike.
-use mathlib.Core.Path.{_≡_, sym, _∙_, ap, fun-ext}
+use mathlib.Core.Path.{_≡_, sym, _∙_, ap, ap₂, fun-ext}
 use mathlib.Core.Logic.{_⊎_, inl, inr}
 use mathlib.Core.Bool.{Bool, true, not}
 use mathlib.Core.List.{List}
@@ -9,12 +9,12 @@ use Prim.Native.Nat.{ℕ, _-_, _≤_, _<_}
 use native.Mathlib.Omega.{arith}
 use lib.ListN.{getD, length, List·getD-eq-default}
 use Rattle.sets.specs.Lists.{sumTo}
-use Rattle.sets.specs.Set.{has, within}
-use Rattle.sets.specs.Truth.{same, oneTo, check}
+use Rattle.sets.specs.Set.{has}
+use Rattle.sets.specs.Truth.{same, oneTo}
 use Rattle.sets.specs.TruthLaws.{choose-on, choose-off, Is, is, on, off, le-or}
 use Rattle.global_data.specs.declared.Entry.{Entry}
 use Rattle.aggregates.specs.Answers.{gives}
-use Rattle.aggregates.specs.Entries.{entryAt, standingAt, countsFor, dietsFit}
+use Rattle.aggregates.specs.Entries.{entryAt, standingAt, countsFor}
 use Rattle.aggregates.specs.Leader.{leaderTo}
 use Rattle.aggregates.specs.Aggregates.{refusalOf, unless, total, go, led}
 use Rattle.aggregates.specs.Aggregates.{changed, totalOf, goOf, leadOf, changeOf}
@@ -59,36 +59,31 @@ module _ (n marks : ℕ) (xs ys : List ℕ) (h : Alike (has marks) xs ys) where
   entry i (on e) = rw (word _ xs ys h i e)
   entry i (off e) = choose-off _ _ _ e ∙ sym (choose-off _ _ _ e)
 
-  -- what is worked from the length and the view is the same of both
-  blind : {A : Type 0} (f : ℕ → (ℕ → Entry) → A) → f (length xs) (entryAt xs marks) ≡ f (length ys) (entryAt ys marks)
-  blind f =
-      ap (λ (l : ℕ). f l (entryAt xs marks)) (h .long)
-      ∙ ap (f (length ys)) (fun-ext (λ i. entry i (is (has marks i))))
+  view : entryAt xs marks ≡ entryAt ys marks
+  view = fun-ext (λ i. entry i (is (has marks i)))
 
-  -- so are the checks
-  abbrev checksOf : Bool → Bool → ℕ → (ℕ → Entry) → ℕ
-  checksOf named stood l entry =
-      check (oneTo 16 n) 1
-      (check (within n marks) 5
-      (check named 5 (check (same l n) 10 (check stood 10 (check (dietsFit n entry) 15 0)))))
+  -- so the checks are the same of both
+  checked : (named stood : Bool) → refusalOf n marks named stood xs ≡ refusalOf n marks named stood ys
+  unfolding refusalOf
+  checked named stood = rw (h .long, view)
 
   pub total-blind : (ss ts : List ℕ) → Alike (λ i. not (has marks i)) ss ts
       → totalOf n xs marks ss ≡ totalOf n ys marks ts
-  unfolding totalOf refusalOf
+  unfolding totalOf
   total-blind ss ts k =
-      blind (λ l entry. unless (checksOf true (same (length ss) n) l entry) (gives (total n (standingAt ss) entry)))
+      ap₂ (λ c (e : ℕ → Entry). unless c (gives (total n (standingAt ss) e))) (checked true (same (length ss) n)) view
       ∙ standing-blind n marks ss ts k ys
 
   pub go-blind : goOf n xs marks ≡ goOf n ys marks
-  unfolding goOf refusalOf
-  go-blind = blind (λ l entry. unless (checksOf true true l entry) (gives (go n entry)))
+  unfolding goOf
+  go-blind = ap₂ (λ c (e : ℕ → Entry). unless c (gives (go n e))) (checked true true) view
 
   pub lead-blind : leadOf n xs marks ≡ leadOf n ys marks
-  unfolding leadOf refusalOf
-  lead-blind = blind (λ l entry. unless (checksOf true true l entry) (led (leaderTo n entry)))
+  unfolding leadOf
+  lead-blind = ap₂ (λ c (e : ℕ → Entry). unless c (led (leaderTo n e))) (checked true true) view
 
   pub change-blind : (process standing : ℕ)
       → changeOf n xs marks process standing ≡ changeOf n ys marks process standing
-  unfolding changeOf refusalOf
+  unfolding changeOf
   change-blind process standing =
-      blind (λ l entry. unless (checksOf (oneTo n process) true l entry) (changed standing (entry (process - 1))))
+      ap₂ (λ c (e : ℕ → Entry). unless c (changed standing (e (process - 1)))) (checked (oneTo n process) true) view

@@ -5,7 +5,7 @@ use mathlib.Core.Bool.{true, false}
 use Prim.Native.Nat.{_≤_, _<_}
 use native.Mathlib.Omega.{arith}
 use lib.Dec.{ltb}
-use Rattle.sets.specs.Truth.{_&&_, same, below}
+use Rattle.sets.specs.Truth.{below}
 use Rattle.sets.specs.TruthLaws.{or-cases, or-none-l, or-none-r, or-off-l, or-off-r, and-l}
 use Rattle.sets.specs.TruthLaws.{and-r, and-on-l, and-off-l, and-cases, same-on, same-mk}
 use Rattle.sets.specs.TruthLaws.{same-off, same-not, below-on, below-off, below-not, off-by}
@@ -24,23 +24,15 @@ pub record Behind (a b : Candidate) : Type 0 where
 pub better-on : (a b : Candidate) → better a b ≡ true → Ahead a b
 unfolding better
 better-on a b e =
-    ⊎-elim (λ l. inl (below-on (b .portions) (a .portions) l))
-    (λ t. inr (
-      same-on (b .portions) (a .portions) (and-l (same (b .portions) (a .portions)) (below (a .process) (b .process)) t),
-      below-on (a .process) (b .process) (and-r (same (b .portions) (a .portions)) (below (a .process) (b .process)) t),
-    ))
-    (or-cases (below (b .portions) (a .portions)) (same (b .portions) (a .portions) && below (a .process) (b .process)) e)
+    ⊎-elim (λ l. inl (below-on _ _ l)) (λ t. inr (same-on _ _ (and-l _ _ t), below-on _ _ (and-r _ _ t)))
+    (or-cases _ _ e)
 
 pub better-off : (a b : Candidate) → better a b ≡ false → Behind a b
 unfolding better
 better-off a b e = record {
-  larger =
-      below-not (b .portions) (a .portions)
-      (or-none-l (below (b .portions) (a .portions)) (same (b .portions) (a .portions) && below (a .process) (b .process)) e);
-  lower = λ q. ⊎-elim (λ s. absurd (same-not (b .portions) (a .portions) s (sym q)))
-      (λ l. below-not (a .process) (b .process) l)
-      (and-cases (same (b .portions) (a .portions)) (below (a .process) (b .process))
-      (or-none-r (below (b .portions) (a .portions)) (same (b .portions) (a .portions) && below (a .process) (b .process)) e));
+  larger = below-not _ _ (or-none-l _ _ e);
+  lower = λ q. ⊎-elim (λ s. absurd (same-not _ _ s (sym q))) (λ l. below-not _ _ l)
+      (and-cases _ _ (or-none-r (below (b .portions) (a .portions)) _ e));
 }
 
 pub behind-off : (a b : Candidate) → Behind a b → better a b ≡ false
@@ -59,12 +51,11 @@ better-over a b c e f =
     (λ t. record { larger = omega arith; lower = λ q. omega (arith, h .lower (omega arith)) })
     (better-on b c e))
 
--- as the code tests it: of equal values by the numbers, of others by the values
+-- as the code tests it: of equal portions by the numbers, of others by the portions
 pub better-same : (a b : Candidate) → a .portions ≡ b .portions → ltb (a .process) (b .process) ≡ better a b
 unfolding better below
 better-same a b e =
-    sym (or-off-l (below (b .portions) (a .portions)) _ (below-off (b .portions) (a .portions) (omega arith))
-    ∙ and-on-l (same (b .portions) (a .portions)) (below (a .process) (b .process)) (same-mk (b .portions) (a .portions) (sym e)))
+    sym (or-off-l _ _ (below-off (b .portions) (a .portions) (omega arith)) ∙ and-on-l _ _ (same-mk _ _ (sym e)))
 
 pub better-other : (a b : Candidate) → (a .portions ≡ b .portions → ⊥) → ltb (b .portions) (a .portions) ≡ better a b
 unfolding better below

@@ -113,8 +113,8 @@ lead-is n g b e =
       lowest = λ i v l q. apart i v b l (h i v (omega (arith, t .to)) q) (le-or (b .portions) v);
     }
   where
-    apart : (i v : ℕ) (b : Candidate) → suc i < b .process → Behind (candidate i v) b → (b .portions ≤ v) ⊎ (v < b .portions)
-        → v < b .portions
+    apart : (i v : ℕ) (b : Candidate) → suc i < b .process → Behind (candidate i v) b
+        → (b .portions ≤ v) ⊎ (v < b .portions) → v < b .portions
     apart i v b l h (inl k) = absurd (omega (arith, h .lower (omega (arith, h .larger))))
     apart i v b l h (inr k) = k
 

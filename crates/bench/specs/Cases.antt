@@ -325,8 +325,8 @@ table =
 
 -- every case passes: the checker computes it from the definitions
 pub cases : everyIn passes table ≡ true
-unfolding bytes startWith start send arrive close crash suspect answersOf closingsOf endOf sameBool sameList sameClosings
-    sameEntries pred sameLine passes
+unfolding bytes startWith start send arrive close crash suspect answersOf closingsOf endOf sameBool sameList
+    sameClosings sameEntries pred sameLine passes
     round3 noRefusal allThree case1 case2 case3 case4and6 sizes case7 case8 case9 case10 values tooMuch table
     has insertOf removeOf unionOf intersectionOf differenceOf allOf sizeOf ones _&&_ _||_ same below choose
     portionsOf dietOf entryOf sameEntry dietFits each every nothingOf oneOf filledWord fillOf fillFrom sameTo allSame
@@ -334,8 +334,8 @@ unfolding bytes startWith start send arrive close crash suspect answersOf closin
     closingOf closingNumber opensNext decidesOf owedOf decideOf advanceOf closeOf adoptOf messageOf sendOf suspectOf
     processAt sentAt transitAt crashedAt withProcess withSent withTransit withCrashed openedOf opens everyIn within
     soundData soundProcess soundOf
-    wordOf oneTo usesB usesR usesValue fieldB fieldR fieldValue fields messageFrom eventOf partsOf
-    readOf startFits checkDiet decodeOf check numberOf actor isCrash passes7 passes8 passes9 refuses refusesDecoded refusal
+    wordOf oneTo usesB usesR usesValue fieldB fieldR fieldValue fields messageFrom eventOf partsOf readOf startFits
+    checkDiet decodeOf check numberOf actor isCrash passes7 passes8 passes9 refuses refusesDecoded refusal
     opensRound rowsAt sends arrives closesAs effect effectDecoded effectOf afterRecord
     closingAt closingDecoded closingIn isNone
 cases = refl

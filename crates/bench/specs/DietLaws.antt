@@ -3,13 +3,13 @@
 -- Each check is taken apart; a bench with its words erased is refused what the bench is.
 use mathlib.Core.Path.{_≡_, refl, sym, ap, ap₂, _∙_}
 use mathlib.Core.List.{List, [], _∷_, map}
-use mathlib.Core.Bool.{Bool, true, false, not}
+use mathlib.Core.Bool.{Bool, true, false}
 use Prim.Native.Nat.{ℕ, zero, suc, _≤_, _<_}
 use native.Mathlib.Omega.{arith}
 use lib.ListN.{getD}
 use Rattle.sets.specs.Lists.{everyIn}
 use Rattle.sets.specs.Truth.{_&&_, check}
-use Rattle.sets.specs.TruthLaws.{Is, on, off, is, clash, check-on, check-off, check-zero}
+use Rattle.sets.specs.TruthLaws.{Is, on, off, is, clash, check-on, check-off}
 use Rattle.global_data.specs.declared.GlobalData.{GlobalData}
 use Rattle.global_data.specs.GlobalData.{portionsOf, dietOf}
 use Rattle.global_data.specs.WordLaws.{fits-not, fits-off}
@@ -17,7 +17,6 @@ use Rattle.process.specs.declared.Process.{Process}
 use Rattle.process.specs.Fields.{withEstimate}
 use Rattle.process.specs.Steps.{noProcess, hasDecided, takesPart, arrivedOf, dueOf}
 use Rattle.bench.specs.declared.Bench.{Bench}
-use Rattle.bench.specs.declared.Refusal.{Refusal}
 use Rattle.bench.specs.declared.Event.{Event}
 use Rattle.bench.specs.declared.Event.the-variants.{Start, Send, Arrive, Close, Crash, Suspect}
 use Rattle.bench.specs.declared.Decoded.{Decoded}
@@ -26,7 +25,7 @@ use Rattle.bench.specs.State.{processAt, transitAt, crashedAt, benchOf}
 use Rattle.bench.specs.Sound.{soundData, soundProcess, soundOf}
 use Rattle.bench.specs.Record.{readOf, startFits, checkDiet, decodeOf}
 use Rattle.bench.specs.RecordLaws.{diet-fit, diet-unfit, diet-refused, read-refused}
-use Rattle.bench.specs.Refuse.{actor, passes7, passes8, passes9, refuses, refusesDecoded, refusal}
+use Rattle.bench.specs.Refuse.{passes7, passes8, passes9, refuses, refusesDecoded, refusal}
 use Rattle.bench.specs.RefuseLaws.{refusal-damaged, refusal-unread, refusal-event}
 
 -- ---- 15, and the record that has it

@@ -80,6 +80,6 @@ unfoldable pub checkDiet : Decoded → Decoded
 checkDiet (Got e) = choose (startFits e) (Got e) (Refused (record { number = 15 }))
 checkDiet (Refused r) = Refused r
 
--- what some bytes are to a bench of n processes and crash limit t
+-- what some bytes are to a bench of n processes and crash limit t: refused by 3, 4, 5 or 15, or an event
 unfoldable pub decodeOf : ℕ → ℕ → List ℕ → Decoded
 decodeOf n t l = checkDiet (readOf n t l)

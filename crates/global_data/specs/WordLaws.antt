@@ -4,7 +4,7 @@ use mathlib.Core.Path.{_≡_, ap}
 use mathlib.Core.Bool.{true, false}
 use Prim.Native.Nat.{ℕ, _+_, _*_, _^_, _≤_, _<_}
 use native.Mathlib.Omega.{arith}
-use Rattle.sets.specs.Truth.{_&&_, same}
+use Rattle.sets.specs.Truth.{same}
 use Rattle.sets.specs.TruthLaws.{both-ways, and-l, and-r, and-mk, same-on, same-mk, below-on, below-mk}
 use Rattle.sets.specs.TruthLaws.{below-not, below-off, not-on, not-off}
 use Rattle.global_data.specs.declared.Entry.the-variants.{Value}

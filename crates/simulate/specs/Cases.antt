@@ -62,15 +62,15 @@ output =
     ∷ 84 ∷ 32 ∷ 50 ∷ 32 ∷ 49 ∷ 32 ∷ 49 ∷ 32 ∷ 48 ∷ 32 ∷ 45 ∷ 32 ∷ 50 ∷ 53 ∷ 47 ∷ 48 ∷ 10 ∷ []
 
 pub case4 : outputOf input ≡ output
-unfolding input output digits decimal field lineOf entryText processText processesText bit
-    openingRefusal unopened openingOf recordsIn answerAt lineAt linesOf afterAll writtenAfter outputOf joined openBench
-    restOf recordAt steps
-    has insertOf removeOf unionOf intersectionOf differenceOf allOf sizeOf ones _&&_ _||_ same below choose
-    portionsOf dietOf entryOf sameEntry dietFits each every nothingOf oneOf filledWord fillOf fillFrom sameTo allSame idleOf hasDecided takesPart
-    openRoundOf startOf keeps receiveOf arrivedOf dueOf nextOf peersOf filledOf agreedOf closingOf closingNumber
-    opensNext decidesOf owedOf decideOf advanceOf closeOf adoptOf messageOf sendOf suspectOf processAt sentAt
-    transitAt crashedAt withProcess withSent withTransit withCrashed openedOf opens everyIn within soundData
-    soundProcess soundOf wordOf oneTo usesB usesR usesValue fieldB fieldR fieldValue fields messageFrom eventOf
-    partsOf readOf startFits checkDiet decodeOf check numberOf actor isCrash passes7 passes8 passes9 refuses refusesDecoded refusal opensRound
-    rowsAt sends arrives closesAs effect effectDecoded effectOf afterRecord
+unfolding input output digits decimal field lineOf entryText processText processesText bit openingRefusal unopened
+    openingOf recordsIn answerAt lineAt linesOf afterAll writtenAfter outputOf joined openBench restOf recordAt
+    steps has insertOf removeOf unionOf intersectionOf differenceOf allOf sizeOf ones _&&_ _||_ same below choose
+    portionsOf dietOf entryOf sameEntry dietFits each every nothingOf oneOf filledWord fillOf fillFrom sameTo
+    allSame idleOf hasDecided takesPart openRoundOf startOf keeps receiveOf arrivedOf dueOf nextOf peersOf filledOf
+    agreedOf closingOf closingNumber opensNext decidesOf owedOf decideOf advanceOf closeOf adoptOf messageOf sendOf
+    suspectOf processAt sentAt transitAt crashedAt withProcess withSent withTransit withCrashed openedOf opens
+    everyIn within soundData soundProcess soundOf wordOf oneTo usesB usesR usesValue fieldB fieldR fieldValue
+    fields messageFrom eventOf partsOf readOf startFits checkDiet decodeOf check numberOf actor isCrash passes7
+    passes8 passes9 refuses refusesDecoded refusal opensRound rowsAt sends arrives closesAs effect effectDecoded
+    effectOf afterRecord
 case4 = refl

@@ -4,7 +4,6 @@ use mathlib.Core.Path.{_≡_, sym, _∙_, ap}
 use Prim.Native.Nat.{_-_}
 use native.Mathlib.Omega.{arith}
 use borrow.Author.Needs.{needs}
-use lib.ListN.{length}
 use mathlib.Core.Bool.{true}
 use Rattle.sets.specs.Truth.{oneTo}
 use Rattle.sets.specs.TruthLaws.{one-low, one-high}

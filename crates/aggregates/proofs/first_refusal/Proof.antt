@@ -1,10 +1,8 @@
 -- `first_refusal` is `refusalOf`: each return by the law of its check, the checks before it passed.
 use mathlib.Core.Path.{_≡_, sym, _∙_, ap}
 use mathlib.Core.Bool.{true}
-use Prim.Native.Nat.{_≤_}
 use native.Mathlib.Omega.{arith}
 use borrow.Author.Needs.{needs}
-use lib.ListN.{length}
 use Rattle.sets.specs.Set.{within}
 use Rattle.sets.specs.Truth.{oneTo}
 use Rattle.sets.specs.TruthLaws.{not-on, not-off, one-high}

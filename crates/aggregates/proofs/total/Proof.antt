@@ -1,6 +1,6 @@
 -- `total` answers `totalOf`: the refusal that the checks found, or what is worked of the entries and the standing
 -- values, of which there are then n each.
-use mathlib.Core.Path.{_≡_, sym, _∙_, ap}
+use mathlib.Core.Path.{sym, _∙_, ap}
 use borrow.Author.Needs.{needs}
 use Rattle.sets.specs.Truth.{same}
 use Rattle.sets.specs.TruthLaws.{same-on}

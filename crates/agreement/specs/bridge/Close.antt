@@ -203,7 +203,7 @@ module _ (s : Bench) (c : ℕ → Bool) (K : Bounds s) (B : Basic (s .n) (s .t) 
           let m = peer-on (w .who) (w .member) in
           let r = peer-row (w .who) (m .0) (m .1) in
           let u : entryOf (rowOf s (w .who) q) k ≡ valueIn (getD (new .values) k 0) = rw r (w .shows) in
-          inr (w .who, m .0, m .1, value-present (rowOf s (w .who) q) k _ _ u, sym (value-is (rowOf s (w .who) q) k _ u))
+          inr (w .who, m .0, m .1, value-present _ k _ _ u, sym (value-is (rowOf s (w .who) q) k _ u))
 
   -- ---- the test: what holds where it passes before the last round, and which part fails
 

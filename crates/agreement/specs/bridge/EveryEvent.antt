@@ -5,7 +5,6 @@ use mathlib.Core.Logic.{_≢_, _⊎_, inl, inr}
 use mathlib.Core.Bool.{Bool, true, false, not}
 use Prim.Native.Nat.{ℕ, zero, suc, _≤_, _<_}
 use native.Mathlib.Omega.{arith}
-use lib.Dec.{lit<}
 use Rattle.sets.specs.Set.{has}
 use Rattle.sets.specs.Laws.{empty-by}
 use Rattle.sets.specs.Truth.{_||_}

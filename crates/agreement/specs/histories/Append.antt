@@ -101,7 +101,8 @@ started-append [] g k = refl
 started-append (Start a v ∷ h) g k = go (same a k) (started-append h g k)
   where
     go : (b : Bool) → startedWith (h ++ g) k ≡ orElse (startedWith h k) (startedWith g k)
-        → choose b (valueIn v) (startedWith (h ++ g) k) ≡ orElse (choose b (valueIn v) (startedWith h k)) (startedWith g k)
+        → choose b (valueIn v) (startedWith (h ++ g) k)
+        ≡ orElse (choose b (valueIn v) (startedWith h k)) (startedWith g k)
     go true ih = refl
     go false ih = ih
 started-append (Send a b ∷ h) g k = started-append h g k

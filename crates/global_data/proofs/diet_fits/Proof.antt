@@ -1,5 +1,4 @@
 -- Of a value the test is the definition's, the other way round; an absent entry passes.
-use mathlib.Core.Path.{refl, sym, ap, _∙_}
 use borrow.Author.Needs.{needs}
 use Rattle.sets.specs.Tests.{not-above}
 use Rattle.global_data.specs.GlobalData.{dietFits}

@@ -1,7 +1,7 @@
 -- `same_entry` compares two entries: each of the four arms is a line of the definition, and of two words one test
 -- stands for both numbers.
-use mathlib.Core.Path.{_≡_, sym, _∙_, ap, ap₂}
-use mathlib.Core.Bool.{Bool, true, false}
+use mathlib.Core.Path.{_≡_, sym, _∙_}
+use mathlib.Core.Bool.{Bool, true}
 use Prim.Native.Nat.{ℕ}
 use Rattle.sets.specs.Truth.{choose, same}
 use Rattle.global_data.specs.GlobalData.{entry, sameEntry}

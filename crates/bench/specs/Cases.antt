@@ -3,7 +3,7 @@
 use mathlib.Core.Path.{_≡_, refl}
 use mathlib.Core.List.{List, [], _∷_}
 use mathlib.Core.Bool.{Bool, true, false}
-use Prim.Native.Nat.{ℕ, zero, suc, _/_, _%_}
+use Prim.Native.Nat.{ℕ, zero, suc, _+_, _*_, _/_, _%_}
 use lib.Count.{ones}
 use Rattle.sets.specs.Lists.{each, every, everyIn}
 use Rattle.sets.specs.Set.{has, insertOf, removeOf, unionOf, intersectionOf, differenceOf, allOf, sizeOf, within}
@@ -20,6 +20,7 @@ use Rattle.process.specs.declared.Process.{Process}
 use Rattle.process.specs.declared.Closing.{Closing}
 use Rattle.process.specs.declared.Closing.the-variants.{NextRound, Agreed, LastRound}
 use Rattle.bench.specs.declared.Bench.{Bench}
+use Rattle.bench.specs.declared.Event.the-variants.{Start as StartOf}
 use Rattle.bench.specs.State.{processAt, sentAt, transitAt, crashedAt, withProcess}
 use Rattle.bench.specs.State.{withSent, withTransit, withCrashed, openedOf}
 use Rattle.bench.specs.Sound.{opens, soundData, soundProcess, soundOf}
@@ -141,13 +142,16 @@ sameLine s l =
     && (sameBool (crashedAt s (pred (l .process))) (l .crashed)
     && (sameBool (hasDecided p) (l .decided) && (same (p .current) (l .current) && sameEntries 0 p (l .entries))))
 
-pub passes : Case → Bool
-passes c =
-    let s = openedOf (c .n) (c .t) in
+-- from a bench s
+pub passesFrom : Bench → Case → Bool
+passesFrom s c =
     same (choose (opens (c .n) (c .t)) 0 1) (c .opening)
     && (sameList (answersOf s (c .records)) (c .answers)
     && (sameClosings (closingsOf 1 s (c .records)) (c .closings)
     && everyIn (sameLine (endOf s (c .records))) (c .lines)))
+
+pub passes : Case → Bool
+passes c = passesFrom (openedOf (c .n) (c .t)) c
 
 -- every process sends its message to each of two others; each of them arrives
 round3 : ℕ → List (List ℕ) → List (List ℕ)
@@ -318,16 +322,39 @@ tooMuch =
       lines = line 1 1 false false 3 (Value 40 3 ∷ Absent ∷ []) ∷ line 2 0 true false 0 (Absent ∷ Absent ∷ []) ∷ [];
     }
 
+-- a bench that no schedule reaches: process 1 has started with 3 portions and 5 diet portions. It passes 2 and is
+-- stepped, and the value is filled in and decided on
+pub held : Bench
+held = effect (StartOf 0 (3 + 65536 * 5)) (openedOf 2 1)
+
+pub heldCase : Case
+heldCase =
+    record {
+      n = 2;
+      t = 1;
+      opening = 0;
+      records =
+          startWith 1 3 5 ∷ startWith 1 5 3 ∷ startWith 2 25 0 ∷ send 1 2 ∷ send 2 1 ∷ arrive 1 2 1 ∷ arrive 2 1 1
+          ∷ close 2 ∷ close 1 ∷ send 2 1 ∷ arrive 2 1 2
+          ∷ send 1 2 ∷ close 1 ∷ [];
+      answers = 15 ∷ 7 ∷ 0 ∷ 0 ∷ 0 ∷ 0 ∷ 0 ∷ 0 ∷ 0 ∷ 0 ∷ 0 ∷ 0 ∷ 0 ∷ [];
+      closings = at 8 NextRound ∷ at 9 NextRound ∷ at 13 LastRound ∷ [];
+      lines =
+          line 1 2 false true 3 (Value 3 5 ∷ Value 25 0 ∷ [])
+          ∷ line 2 2 false false 3 (Value 3 5 ∷ Value 25 0 ∷ []) ∷ [];
+    }
+
 pub table : List Case
 table =
     case1 ∷ case2 ∷ case3 ∷ case4and6 ∷ sizes 16 15 0 ∷ sizes 17 0 1 ∷ sizes 0 0 1 ∷ case7 ∷ case8 ∷ case9 ∷ case10
     ∷ values 0 0 ∷ values 65535 0 ∷ values 65535 65535 ∷ values 1 1 ∷ tooMuch ∷ []
 
 -- every case passes: the checker computes it from the definitions
-pub cases : everyIn passes table ≡ true
+pub cases : (everyIn passes table && passesFrom held heldCase) ≡ true
 unfolding bytes startWith start send arrive close crash suspect answersOf closingsOf endOf sameBool sameList
-    sameClosings sameEntries pred sameLine passes
-    round3 noRefusal allThree case1 case2 case3 case4and6 sizes case7 case8 case9 case10 values tooMuch table
+    sameClosings sameEntries pred sameLine passesFrom passes
+    round3 noRefusal allThree case1 case2 case3 case4and6 sizes case7 case8 case9 case10 values tooMuch held heldCase
+    table
     has insertOf removeOf unionOf intersectionOf differenceOf allOf sizeOf ones _&&_ _||_ same below choose
     portionsOf dietOf entryOf sameEntry dietFits each every nothingOf oneOf filledWord fillOf fillFrom sameTo allSame
     idleOf hasDecided takesPart openRoundOf startOf keeps receiveOf arrivedOf dueOf nextOf peersOf filledOf agreedOf

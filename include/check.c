@@ -1,6 +1,6 @@
 /* The header against the library: the layout, document 01's case 4 by every call, closings of other cases, the order
- * of the list in transit, standing values in a total, a byte in `decided`, and weeks of a calendar. Prints `ok`, or
- * the line that failed. C11 and C++11. */
+ * of the list in transit, standing values in a total, a byte in `decided`, diet portions in starts, entries and
+ * aggregates, and weeks of a calendar. Prints `ok`, or the line that failed. C11 and C++11. */
 #include "gerzulan.h"
 
 #include <assert.h>
@@ -205,7 +205,8 @@ static int totals(void) {
         most[i] = UINT32_MAX;
         least[i] = 0;
     }
-    CHECK(gerzulan_total(16, most, 16, UINT16_MAX, least, 16, &sum) == 0 && sum == 16 * (uint64_t)UINT32_MAX);
+    /* All portions are diet portions here. */
+    CHECK(gerzulan_total(16, most, 16, UINT16_MAX, least, 16, &sum) == 0 && sum == 16 * (uint64_t)UINT16_MAX);
     CHECK(gerzulan_total(16, least, 16, 0, most, 16, &sum) == 0 && sum == 16 * (uint64_t)UINT32_MAX);
     CHECK(gerzulan_total(16, least, 16, UINT16_MAX, most, 16, &sum) == 0 && sum == 0);
     return 0;
@@ -230,6 +231,107 @@ static int decided_byte(void) {
     CHECK(step(&other, arrive, 8, &tally) == 0 && closing == GERZULAN_NO_CLOSE);
     CHECK(gerzulan_bench_global_data(&other, 2, out, 2) == 1 && out[0] == 40 && out[1] == 0);
     CHECK(other.processes[0].decided == 53 && other.processes[1].decided == 1);
+    return 0;
+}
+
+/* A start has portions, then the diet portions among them, low bytes first, and an entry both. More diet portions than
+ * portions are refused with 15: after 5, before 6 and 7, and in a run as 31. */
+static int diet_of_starts(void) {
+    static const uint8_t start_1[8] = {1, 1, 0, 0, 0x34, 0x12, 0x33, 0x12}, again_1[8] = {1, 1, 0, 0, 40, 0, 3, 0};
+    static const uint8_t start_2[8] = {1, 2, 0, 0, 0xFF, 0xFF, 0xFF, 0xFF}, stop_2[8] = {5, 2}, close_1[8] = {4, 1};
+    static const uint8_t send_and_arrive[4][8] = {{2, 1, 2}, {2, 2, 1}, {3, 1, 2, 1}, {3, 2, 1, 1}};
+    uint8_t exceeds[8] = {1, 1, 0, 0, 0xFF, 0, 0, 1};
+    struct gerzulan_counters tally = {0, 0, 0};
+    uint32_t out[2] = {7, 7};
+    CHECK(gerzulan_bench_open(&bench, 2, 1) == 0 && gerzulan_bench_open(&other, 2, 1) == 0);
+    CHECK(step(&other, exceeds, 8, &tally) == 15 && closing == GERZULAN_NO_CLOSE);
+    CHECK(run(&other, exceeds, 8, 1) == GERZULAN_REFUSED + 15 && progress.accepted == 0 && progress.taken == 0);
+    CHECK(memcmp(&other, &bench, sizeof other) == 0 && tally.accepted == 0 && tally.refused == 1);
+    CHECK(step(&other, exceeds, 7, &tally) == 3);
+    exceeds[3] = 1;
+    CHECK(step(&other, exceeds, 8, &tally) == 5);
+    exceeds[3] = 0;
+    CHECK(step(&other, start_1, 8, &tally) == 0 && step(&other, start_2, 8, &tally) == 0);
+    CHECK(step(&other, again_1, 8, &tally) == 7 && step(&other, exceeds, 8, &tally) == 15);
+    CHECK(run(&other, send_and_arrive[0], 32, 4) == GERZULAN_EMPTY && step(&other, stop_2, 8, &tally) == 0);
+    exceeds[1] = 2;
+    CHECK(step(&other, start_2, 8, &tally) == 6 && step(&other, exceeds, 8, &tally) == 15);
+    CHECK(step(&other, close_1, 8, &tally) == 0 && closing == GERZULAN_NEXT_ROUND);
+    CHECK(other.processes[0].estimate.values[0] == 0x12331234u && other.processes[0].estimate.values[1] == UINT32_MAX);
+    CHECK(other.sent[0].values[0] == 0x12331234u && other.sent[0].present == 1);
+    other.processes[0].decided = 1;
+    CHECK(gerzulan_bench_global_data(&other, 1, out, 2) == 3);
+    CHECK(out[0] == GERZULAN_VALUE(0x1234, 0x1233) && out[1] == UINT32_MAX);
+    CHECK(GERZULAN_PORTIONS(out[0]) == 0x1234 && GERZULAN_DIET(out[0]) == 0x1233);
+    CHECK(GERZULAN_PORTIONS(out[1]) == UINT16_MAX && GERZULAN_DIET(out[1]) == UINT16_MAX);
+    return 0;
+}
+
+/* Estimates that differ in diet portions alone are not equal: process 1 of 2 decides in round 1 exactly where 2 has
+ * sent what 1 holds. An entry with more diet portions than portions is no damage. */
+static int diet_decides(void) {
+    static const uint8_t records[4][8] = {{1, 1, 0, 0, 40, 0, 3}, {1, 2, 0, 0, 25}, {2, 1, 2}, {2, 2, 1}};
+    static const uint8_t arrive[8] = {3, 2, 1, 1}, close_1[8] = {4, 1};
+    static const uint32_t others[5] = {GERZULAN_VALUE(25, 0), GERZULAN_VALUE(25, 1), GERZULAN_VALUE(24, 0),
+                                       GERZULAN_VALUE(0, 25), GERZULAN_VALUE(25, 26)};
+    struct gerzulan_counters tally = {0, 0, 0};
+    for (int i = 0; i < 5; i++) {
+        CHECK(gerzulan_bench_open(&other, 2, 1) == 0);
+        CHECK(run(&other, records[0], 32, 4) == GERZULAN_EMPTY && step(&other, arrive, 8, &tally) == 0);
+        other.processes[0].estimate.present = 3;
+        other.processes[0].estimate.values[1] = GERZULAN_VALUE(25, 0);
+        other.sent[16] = other.processes[0].estimate;
+        other.sent[16].values[1] = others[i];
+        CHECK(step(&other, close_1, 8, &tally) == 0 && closing == (i == 0 ? GERZULAN_AGREED : GERZULAN_NEXT_ROUND));
+        CHECK(other.processes[0].estimate.values[1] == GERZULAN_VALUE(25, 0));
+    }
+    return 0;
+}
+
+/* What is given to the four aggregates, and what they have written. */
+static uint64_t sum;
+static uint8_t going, leader;
+static uint32_t most_of;
+static int64_t difference;
+
+/* Gives whether each call has its answer, and has written what was lent exactly where that is 0. */
+static int four_are(uint8_t n, const uint32_t *entries, size_t length, uint16_t marks, const uint32_t *standing,
+                    uint8_t process, const uint32_t *answers) {
+    sum = 9, going = 9, leader = 9, most_of = 9, difference = 9;
+    if (gerzulan_total(n, entries, length, marks, standing, 2, &sum) != answers[0] ||
+        gerzulan_go(n, entries, length, marks, &going) != answers[1] ||
+        gerzulan_lead(n, entries, length, marks, &leader, &most_of) != answers[2] ||
+        gerzulan_change(n, entries, length, marks, process, UINT32_MAX, &difference) != answers[3]) {
+        return 0;
+    }
+    return (answers[0] == 0) == (sum != 9) && (answers[1] == 0) == (going != 9) &&
+           (answers[2] == 0) == (leader != 9) && (answers[2] == 0) == (most_of != 9) &&
+           (answers[3] == 0) == (difference != 9);
+}
+
+/* Aggregates read portions. 15 for a present entry comes after 1, 5 and 10 and before 12, and no word under an absent
+ * one is looked at. */
+static int diet_of_aggregates(void) {
+    static const uint32_t good[2] = {GERZULAN_VALUE(40, 40), GERZULAN_VALUE(41, 3)};
+    static const uint32_t bad[2] = {GERZULAN_VALUE(40, 41), GERZULAN_VALUE(41, 3)};
+    static const uint32_t ties[2] = {GERZULAN_VALUE(7, 0), GERZULAN_VALUE(7, 7)};
+    static const uint32_t no_go[2] = {GERZULAN_VALUE(1, 1), GERZULAN_VALUE(0, 0)};
+    static const uint32_t standing[2] = {0x10000, 0x20000};
+    static const uint32_t all_0[4] = {0, 0, 0, 0}, all_1[4] = {1, 1, 1, 1}, all_5[4] = {5, 5, 5, 5};
+    static const uint32_t all_10[4] = {10, 10, 10, 10}, all_15[4] = {15, 15, 15, 15}, no_such[4] = {15, 15, 15, 5};
+    static const uint32_t absent[4] = {0, 0, 0, 12}, none[4] = {0, 0, 12, 12};
+    CHECK(four_are(2, good, 2, 3, standing, 2, all_0) && sum == 81 && going == 1 && leader == 2 && most_of == 41);
+    CHECK(difference == 41 - (int64_t)UINT32_MAX);
+    CHECK(four_are(2, ties, 2, 3, standing, 1, all_0) && sum == 14 && leader == 1 && most_of == 7);
+    CHECK(four_are(2, no_go, 2, 3, standing, 2, all_0) && sum == 1 && going == 0);
+    CHECK(difference == -(int64_t)UINT32_MAX);
+    CHECK(four_are(2, bad, 2, 3, standing, 2, all_15) && four_are(2, bad, 2, 1, standing, 2, all_15));
+    CHECK(four_are(0, bad, 2, 3, standing, 1, all_1) && four_are(2, bad, 2, 7, standing, 1, all_5));
+    CHECK(four_are(2, bad, 2, 3, standing, 3, no_such) && four_are(2, bad, 1, 3, standing, 1, all_10));
+    CHECK(gerzulan_total(2, bad, 2, 3, standing, 1, &sum) == 10 && sum == 9);
+    CHECK(four_are(2, bad, 2, 2, standing, 1, absent) && sum == 0x10000 + 41 && going == 0 && leader == 2);
+    CHECK(four_are(2, bad, 2, 0, standing, 1, none) && sum == 0x30000 && going == 0);
+    CHECK(gerzulan_change(2, good, 2, 3, 2, 0, &difference) == 0 && difference == 41);
     return 0;
 }
 
@@ -278,7 +380,7 @@ static int calendar(void) {
 
 int main(void) {
     if (one_by_one() || by_runs() || agreed() || last_round() || list_in_order() || reads() || totals() ||
-        decided_byte() || calendar()) {
+        decided_byte() || diet_of_starts() || diet_decides() || diet_of_aggregates() || calendar()) {
         return 1;
     }
     puts("ok");

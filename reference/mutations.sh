@@ -46,12 +46,12 @@ try own-old-estimate-left-out src/step.rs \
     'p.estimate.same(new) && members(next & !bit(a)).all(|m| self.sent_in(m, p.round).same(new))' \
     'members(next & !bit(a)).all(|m| self.sent_in(m, p.round).same(new))'
 try zero-started-as-absent src/step.rs \
-    'p.estimate.present = bit(a);' 'p.estimate.present = if value == 0 { 0 } else { bit(a) };'
+    'p.estimate.set(a, value);' 'if value != Value::ZERO { p.estimate.set(a, value); }'
 try zero-filled-as-absent src/layout.rs \
     'for i in members(other.present & !self.present) {' \
     'let other = &GlobalData { present: members(other.present).filter(|&i| other.values[i] != 0).map(bit).sum(), ..*other }; for i in members(other.present & !self.present) {'
 try zero-shown-as-absent src/layout.rs \
-    '(self.present & bit(i) != 0).then(|| self.values[i])' '(self.present & bit(i) != 0 && self.values[i] != 0).then(|| self.values[i])'
+    '(self.present & bit(i) != 0).then(|| self.value(i))' '(self.present & bit(i) != 0 && self.values[i] != 0).then(|| self.value(i))'
 try received-dropped-once-suspected src/step.rs \
     'Ok(p.current & arrived)' 'Ok(p.current & arrived & !p.suspected)'
 try decide-on-equal-estimates-alone src/step.rs \
@@ -71,7 +71,7 @@ try close-without-waiting src/step.rs \
 try suspect-twice src/step.rs \
     'if self.crashed & bit(b) == 0 || p.suspected & bit(b) != 0 {' 'if self.crashed & bit(b) == 0 {'
 try value-changed-at-start src/step.rs \
-    'p.estimate.values[a] = value;' 'p.estimate.values[a] = value ^ 1;'
+    'p.estimate.set(a, value);' 'p.estimate.set(a, Value::from_word(value.word() ^ 1));'
 try decide-again src/step.rs \
     'if self.processes[b].round != 0 && !self.processes[b].has_decided() {' 'if self.processes[b].round != 0 {'
 
@@ -89,9 +89,9 @@ try unused-processes-not-checked src/layout.rs \
     'let processes = self.processes.iter().fold(0, |used, p| used | p.used());' \
     'let processes = self.processes.iter().take(self.n as usize).fold(0, |used, p| used | p.used());'
 try lead-ties-to-highest src/aggregates.rs \
-    'if best.is_none_or(|(_, value)| entries[i] > value) {' 'if best.is_none_or(|(_, value)| entries[i] >= value) {'
+    'if best.is_none_or(|(_, most)| value > most) {' 'if best.is_none_or(|(_, most)| value >= most) {'
 try change-of-32-bits src/aggregates.rs \
-    'Ok(entries[i] as i64 - standing as i64)' 'Ok(entries[i].wrapping_sub(standing) as i32 as i64)'
+    'Ok(portions(entries[i]) as i64 - standing as i64)' 'Ok((portions(entries[i]) as u32).wrapping_sub(standing) as i32 as i64)'
 
 # The byte in `decided`.
 try decided-only-by-1 src/layout.rs \
@@ -146,24 +146,25 @@ try refused-close-counts-in-a-run src/run.rs \
     'Err(refusal) => { if refusal == Refusal::Waiting { closing = Closing::NextRound; } break Cause::Refused(refusal.number()); }'
 
 # Standing values in the total.
+value='let value = |i: usize| if present & bit(i) != 0 { portions(entries[i]) as u32 } else { standing[i] };'
 try absent-as-nought src/aggregates.rs \
-    'let value = |i: usize| if present & bit(i) != 0 { entries[i] } else { standing[i] };' \
-    'let value = |i: usize| if present & bit(i) != 0 { entries[i] } else { 0 };'
+    "$value" \
+    'let value = |i: usize| if present & bit(i) != 0 { portions(entries[i]) as u32 } else { 0 };'
 try word-under-absent src/aggregates.rs \
-    'let value = |i: usize| if present & bit(i) != 0 { entries[i] } else { standing[i] };' \
-    'let value = |i: usize| entries[i];'
+    "$value" \
+    'let value = |i: usize| portions(entries[i]) as u32;'
 try present-as-standing src/aggregates.rs \
-    'let value = |i: usize| if present & bit(i) != 0 { entries[i] } else { standing[i] };' \
+    "$value" \
     'let value = |i: usize| standing[i];'
 try present-zero-as-standing src/aggregates.rs \
-    'let value = |i: usize| if present & bit(i) != 0 { entries[i] } else { standing[i] };' \
-    'let value = |i: usize| if present & bit(i) != 0 && entries[i] != 0 { entries[i] } else { standing[i] };'
+    "$value" \
+    'let value = |i: usize| if present & bit(i) != 0 && entries[i] != 0 { portions(entries[i]) as u32 } else { standing[i] };'
 try neighbours-standing src/aggregates.rs \
-    'let value = |i: usize| if present & bit(i) != 0 { entries[i] } else { standing[i] };' \
-    'let value = |i: usize| if present & bit(i) != 0 { entries[i] } else { standing[(i + 1) % n as usize] };'
+    "$value" \
+    'let value = |i: usize| if present & bit(i) != 0 { portions(entries[i]) as u32 } else { standing[(i + 1) % n as usize] };'
 try standing-taken-in-turn src/aggregates.rs \
-    'let value = |i: usize| if present & bit(i) != 0 { entries[i] } else { standing[i] };' \
-    'let value = |i: usize| if present & bit(i) != 0 { entries[i] } else { standing[(!present & (bit(i) - 1)).count_ones() as usize] };'
+    "$value" \
+    'let value = |i: usize| if present & bit(i) != 0 { portions(entries[i]) as u32 } else { standing[(!present & (bit(i) - 1)).count_ones() as usize] };'
 try total-of-32-bits src/aggregates.rs \
     'Ok((0..n as usize).map(|i| value(i) as u64).sum())' 'Ok((0..n as usize).map(value).fold(0, u32::wrapping_add) as u64)'
 try standing-length-unchecked src/aggregates.rs \
@@ -295,3 +296,87 @@ try site-17-accepted src/calendar.rs \
     'if site < 1 || site > SITES as u8 {' 'let site = if site == 17 { 16 } else { site }; if site < 1 || site > SITES as u8 {'
 try another-kind-is-closed src/calendar.rs '_ => return Err(Fault::Kind),' '_ => Kind::Closed,'
 try no-site-accepted src/calendar.rs 'if bench.n == 0 {' 'if false {'
+
+# Diet portions.
+same='self.present == other.present && members(self.present).all(|i| self.value(i) == other.value(i))'
+try diet-not-compared src/layout.rs "$same" \
+    'self.present == other.present && members(self.present).all(|i| self.value(i).portions == other.value(i).portions)'
+try portions-not-compared src/layout.rs "$same" \
+    'self.present == other.present && members(self.present).all(|i| self.value(i).diet == other.value(i).diet)'
+try diet-not-compared-in-the-deciding-test src/step.rs \
+    'p.estimate.same(new) && members(next & !bit(a)).all(|m| self.sent_in(m, p.round).same(new))' \
+    'let equal = |x: &GlobalData| x.present == new.present && members(x.present).all(|i| x.value(i).portions == new.value(i).portions); p.estimate.same(new) && members(next & !bit(a)).all(|m| equal(self.sent_in(m, p.round)))'
+read='let value = Value::from_bytes([v0, v1, v2, v3]);'
+try parts-swapped-in-reading src/record.rs "$read" 'let value = Value::from_bytes([v2, v3, v0, v1]);'
+try value-high-bytes-first src/record.rs "$read" 'let value = Value::from_bytes([v1, v0, v3, v2]);'
+try parts-swapped-in-the-entry src/layout.rs \
+    'self.values[i] = value.word();' 'self.values[i] = Value::new(value.diet, value.portions).word();'
+try diet-lost-when-filling src/layout.rs \
+    'self.values[i] = other.values[i];' 'self.values[i] = Value::new(other.value(i).portions, 0).word();'
+try diet-lost-in-global-data src/read.rs \
+    '*word = p.estimate.entry(i).map_or(0, Value::word);' '*word = p.estimate.entry(i).map_or(0, |value| value.portions as u32);'
+try parts-swapped-in-printing src/value.rs \
+    'write!(f, "{}/{}", self.portions, self.diet)' 'write!(f, "{}/{}", self.diet, self.portions)'
+try diet-not-printed src/value.rs \
+    'write!(f, "{}/{}", self.portions, self.diet)' 'write!(f, "{}", self.portions)'
+try text-loses-the-diet src/text.rs \
+    '(1, 0, 0, Value { portions, diet }) => Some(format!("start {a} {portions} {diet}")),' \
+    '(1, 0, 0, Value { portions, .. }) => Some(format!("start {a} {portions}")),'
+
+# Refusal 15 of a start.
+try fifteen-not-in-a-start src/record.rs 'value.check()?;' ''
+try fifteen-where-equal src/value.rs 'if self.diet > self.portions {' 'if self.diet >= self.portions {'
+try fifteen-from-two-more-on src/value.rs 'if self.diet > self.portions {' 'if self.diet > self.portions.saturating_add(1) {'
+try fifteen-before-5 src/record.rs \
+    'self.unused(b == 0 && r == 0)?;' 'value.check()?; self.unused(b == 0 && r == 0)?;'
+try fifteen-before-5-of-a src/record.rs 'let a = index(self.a, n)?;' 'value.check()?; let a = index(self.a, n)?;'
+try fifteen-of-every-kind src/record.rs \
+    'let Record { kind, b, r, value, .. } = self;' 'let Record { kind, b, r, value, .. } = self; value.check()?;'
+event='let event = Record::read(record)?.event(self.n, self.t)?;'
+try fifteen-after-6 src/step.rs "$event" \
+    'let event = match Record::read(record)?.event(self.n, self.t) { Err(Refusal::Diet) if self.has_crashed(record[1] as usize - 1) => return Err(Refusal::Crashed), event => event? };'
+try fifteen-after-7 src/step.rs "$event" \
+    'let event = match Record::read(record)?.event(self.n, self.t) { Err(Refusal::Diet) if !self.has_crashed(record[1] as usize - 1) && self.processes[record[1] as usize - 1].round != 0 => return Err(Refusal::NotDue), event => event? };'
+try fifteen-as-damage src/layout.rs \
+    'used & !self.everyone() == 0 && self.processes.iter().all(|p| p.round <= self.t + 1)' \
+    'used & !self.everyone() == 0 && self.processes.iter().all(|p| p.round <= self.t + 1 && (0..Bench::MAX).all(|i| p.estimate.entry(i).is_none_or(|value| value.check().is_ok())))'
+
+# Refusal 15 of the aggregates, and what they read.
+diet='members(present).try_for_each(|i| Value::from_word(entries[i]).check())'
+try fifteen-under-absent src/aggregates.rs "$diet" 'entries.iter().try_for_each(|&entry| { let _ = present; Value::from_word(entry).check() })'
+try fifteen-of-the-first-entry-alone src/aggregates.rs "$diet" \
+    'members(present).take(1).try_for_each(|i| Value::from_word(entries[i]).check())'
+total='pub fn total(n: u8, entries: &[u32], present: u16, standing: &[u32]) -> Result<u64, Refusal> {'
+go='pub fn go(n: u8, entries: &[u32], present: u16) -> Result<bool, Refusal> {'
+lead='pub fn lead(n: u8, entries: &[u32], present: u16) -> Result<(u8, u16), Refusal> {'
+change='pub fn change(n: u8, entries: &[u32], present: u16, number: u8, standing: u32) -> Result<i64, Refusal> {'
+unchecked='fn check_diet(_: &[u32], _: u16) -> Result<(), Refusal> { Ok(()) }'
+try total-without-15 src/aggregates.rs "$total" "$total $unchecked"
+try go-without-15 src/aggregates.rs "$go" "$go $unchecked"
+try lead-without-15 src/aggregates.rs "$lead" "$lead $unchecked"
+try change-without-15 src/aggregates.rs "$change" "$change $unchecked"
+early='if check_n(n).is_ok() && present & !all(n) == 0 { members(present).filter(|&i| i < entries.len()).try_for_each(|i| Value::from_word(entries[i]).check())?; }'
+try fifteen-before-10-in-total src/aggregates.rs \
+    'if standing.len() != n as usize {' 'check_diet(entries, present)?; if standing.len() != n as usize {'
+try fifteen-before-10-of-the-entries-in-total src/aggregates.rs "$total" "$total $early"
+try fifteen-before-10-in-go src/aggregates.rs "$go" "$go $early"
+try fifteen-before-10-in-lead src/aggregates.rs "$lead" "$lead $early"
+try fifteen-before-10-in-change src/aggregates.rs "$change" \
+    "$change if (1..=n).contains(&number) { $early }"
+try fifteen-before-5-in-change src/aggregates.rs 'let i = index(number, n)?;' \
+    'if check(n, entries, present).is_ok() { check_diet(entries, present)?; } let i = index(number, n)?;'
+try fifteen-after-12-in-change src/aggregates.rs "$change" \
+    "$change if check(n, entries, present).is_ok() && (1..=n).contains(&number) && present & bit(number as usize - 1) == 0 { return Err(Refusal::Absent); }"
+try total-reads-the-word src/aggregates.rs "$value" \
+    'let value = |i: usize| if present & bit(i) != 0 { entries[i] } else { standing[i] };'
+try go-reads-the-diet src/aggregates.rs \
+    'Ok(present == all(n) && entries.iter().all(|&entry| portions(entry) >= 1))' \
+    'Ok(present == all(n) && entries.iter().all(|&entry| Value::from_word(entry).diet >= 1))'
+try lead-by-the-word src/aggregates.rs \
+    'if best.is_none_or(|(_, most)| value > most) {' 'if best.is_none_or(|(j, _)| entries[i] > entries[j as usize - 1]) {'
+try lead-gives-the-diet src/aggregates.rs \
+    'best.ok_or(Refusal::Absent)' 'best.map(|(j, _)| (j, Value::from_word(entries[j as usize - 1]).diet)).ok_or(Refusal::Absent)'
+try change-reads-the-word src/aggregates.rs \
+    'Ok(portions(entries[i]) as i64 - standing as i64)' 'Ok(entries[i] as i64 - standing as i64)'
+try standing-of-16-bits src/aggregates.rs "$value" \
+    'let value = |i: usize| if present & bit(i) != 0 { portions(entries[i]) as u32 } else { standing[i] & 0xffff };'

@@ -1,8 +1,9 @@
-//! Aggregates of global data (paper: sums): n entries and their marks. No word under an absent entry is read.
+//! Aggregates of global data (paper: sums): n entries, each a word with portions and diet portions, and their marks.
+//! They read portions. No word under an absent entry is read.
 
 use crate::layout::{all, bit, check_n, members};
 use crate::record::index;
-use crate::Refusal;
+use crate::{Refusal, Value};
 
 /// Checks 1, 5 and 10 of the entries.
 fn check(n: u8, entries: &[u32], present: u16) -> Result<(), Refusal> {
@@ -16,44 +17,58 @@ fn check(n: u8, entries: &[u32], present: u16) -> Result<(), Refusal> {
     Ok(())
 }
 
-/// The sum, where an absent entry counts as the standing value of its own process. Other standing values are not read,
-/// but a list not of n is refused with 10, also where no entry is absent.
+/// Check 15, of each present entry.
+fn check_diet(entries: &[u32], present: u16) -> Result<(), Refusal> {
+    members(present).try_for_each(|i| Value::from_word(entries[i]).check())
+}
+
+fn portions(entry: u32) -> u16 {
+    Value::from_word(entry).portions
+}
+
+/// The sum of portions, where an absent entry counts as the standing value of its own process. Other standing values
+/// are not read, but a list not of n is refused with 10, also where no entry is absent.
 pub fn total(n: u8, entries: &[u32], present: u16, standing: &[u32]) -> Result<u64, Refusal> {
     check(n, entries, present)?;
     if standing.len() != n as usize {
         return Err(Refusal::Slice);
     }
-    let value = |i: usize| if present & bit(i) != 0 { entries[i] } else { standing[i] };
+    check_diet(entries, present)?;
+    let value = |i: usize| if present & bit(i) != 0 { portions(entries[i]) as u32 } else { standing[i] };
     Ok((0..n as usize).map(|i| value(i) as u64).sum())
 }
 
-/// No entry is absent and each is at least 1.
+/// No entry is absent and each has at least 1 portion.
 pub fn go(n: u8, entries: &[u32], present: u16) -> Result<bool, Refusal> {
     check(n, entries, present)?;
-    Ok(present == all(n) && entries.iter().all(|&value| value >= 1))
+    check_diet(entries, present)?;
+    Ok(present == all(n) && entries.iter().all(|&entry| portions(entry) >= 1))
 }
 
-/// The lowest process number (from 1) with the largest value, and that value.
-pub fn lead(n: u8, entries: &[u32], present: u16) -> Result<(u8, u32), Refusal> {
+/// The lowest process number (from 1) with the most portions, and how many.
+pub fn lead(n: u8, entries: &[u32], present: u16) -> Result<(u8, u16), Refusal> {
     check(n, entries, present)?;
-    let mut best: Option<(u8, u32)> = None;
+    check_diet(entries, present)?;
+    let mut best: Option<(u8, u16)> = None;
     for i in members(present) {
-        if best.is_none_or(|(_, value)| entries[i] > value) {
-            best = Some((i as u8 + 1, entries[i]));
+        let value = portions(entries[i]);
+        if best.is_none_or(|(_, most)| value > most) {
+            best = Some((i as u8 + 1, value));
         }
     }
     best.ok_or(Refusal::Absent)
 }
 
-/// Entry `number` (from 1) less the standing value.
+/// The portions of entry `number` (from 1) less the standing value.
 pub fn change(n: u8, entries: &[u32], present: u16, number: u8, standing: u32) -> Result<i64, Refusal> {
     check_n(n)?;
     let i = index(number, n)?;
     check(n, entries, present)?;
-    if present & (1 << i) == 0 {
+    check_diet(entries, present)?;
+    if present & bit(i) == 0 {
         return Err(Refusal::Absent);
     }
-    Ok(entries[i] as i64 - standing as i64)
+    Ok(portions(entries[i]) as i64 - standing as i64)
 }
 
 #[cfg(test)]
@@ -62,7 +77,10 @@ mod tests {
 
     const MAX: u32 = u32::MAX;
 
-    const GREATEST: u64 = 16 * MAX as u64;
+    /// The word of an entry.
+    fn word(portions: u16, diet: u16) -> u32 {
+        Value::new(portions, diet).word()
+    }
 
     /// Each standing value is a power of 2, so that the sum tells which were read.
     #[test]
@@ -76,35 +94,42 @@ mod tests {
         assert_eq!(total(1, &[0], 0, &[7]), Ok(7));
     }
 
-    /// Also an entry of 0.
+    /// Also an entry of 0, and whatever the diet.
     #[test]
-    fn a_present_entry_is_its_value() {
-        let entries: [u32; 16] = std::array::from_fn(|i| 1 << i);
-        for present in 0..=u16::MAX {
-            assert_eq!(total(16, &entries, present, &[0; 16]), Ok(present as u64));
+    fn a_present_entry_is_its_portions() {
+        let portions: [u16; 16] = std::array::from_fn(|i| 1 << i);
+        for diet in [|_| 0, |portions: u16| portions / 2, |portions| portions] {
+            let entries = portions.map(|portions| word(portions, diet(portions)));
+            for present in 0..=u16::MAX {
+                assert_eq!(total(16, &entries, present, &[0; 16]), Ok(present as u64));
+            }
         }
         assert_eq!(total(3, &[100, 0, 300], 0b111, &[1, 20, 3]), Ok(400));
+        assert_eq!(total(3, &[word(100, 3), 0, word(300, 300)], 0b111, &[1, 20, 3]), Ok(400));
     }
 
     /// Other words under absent entries, and other standing values of present ones.
     #[test]
     fn total_reads_one_word_for_each_process() {
-        for word in [0, 1, 0xa5a5_a5a5, MAX] {
+        for word in [0, 1, 1 << 16, 0xa5a5_a5a5, MAX] {
             assert_eq!(total(4, &[100, word, 300, word], 0b0101, &[word, 20, word, 40]), Ok(460));
             assert_eq!(total(2, &[word; 2], 0, &[1, 2]), Ok(3));
             assert_eq!(total(2, &[1, 2], 0b11, &[word; 2]), Ok(3));
         }
     }
 
+    /// Standing values are of 32 bits, portions of 16.
     #[test]
     fn the_greatest_total() {
-        for present in [0xffff, 0, 0x0ff0, 0x5555, 1, 0x8000] {
-            let word = |read: bool| if read { MAX } else { 0 };
-            let entries: [u32; 16] = std::array::from_fn(|i| word(present & bit(i) != 0));
-            let standing = entries.map(|entry| word(entry == 0));
-            assert_eq!(total(16, &entries, present, &standing), Ok(GREATEST), "{present:x}");
+        for present in [0xffff, 0, 0x0ff0, 0x5555, 1, 0x8000u16] {
+            let greatest = present.count_ones() as u64 * 65_535 + present.count_zeros() as u64 * MAX as u64;
+            for most in [word(65_535, 0), word(65_535, 65_535)] {
+                let entries = std::array::from_fn::<u32, 16, _>(|i| most * (present >> i & 1) as u32);
+                let standing = entries.map(|entry| if entry == 0 { MAX } else { 0 });
+                assert_eq!(total(16, &entries, present, &standing), Ok(greatest), "{present:x}");
+                assert_eq!(total(16, &[most; 16], present, &[MAX; 16]), Ok(greatest), "{present:x}");
+            }
         }
-        assert_eq!(total(16, &[MAX; 16], 0x00ff, &[MAX; 16]), Ok(GREATEST));
     }
 
     #[test]
@@ -112,6 +137,8 @@ mod tests {
         assert_eq!(go(2, &[1, 1], 0b11), Ok(true));
         assert_eq!(go(2, &[1, 1], 0b01), Ok(false));
         assert_eq!(go(2, &[1, 0], 0b11), Ok(false));
+        assert_eq!(go(2, &[word(1, 1), word(1, 0)], 0b11), Ok(true));
+        assert_eq!(go(2, &[word(2, 2), word(0, 0)], 0b11), Ok(false));
         assert_eq!(go(16, &[1; 16], 0xffff), Ok(true));
     }
 
@@ -123,11 +150,23 @@ mod tests {
         assert_eq!(lead(2, &[5, 6], 0), Err(Refusal::Absent));
     }
 
+    /// By portions, so more diet portions neither lead nor break a tie.
+    #[test]
+    fn lead_does_not_look_at_diet() {
+        assert_eq!(lead(2, &[word(9, 0), word(8, 8)], 3), Ok((1, 9)));
+        assert_eq!(lead(2, &[word(8, 8), word(9, 0)], 3), Ok((2, 9)));
+        assert_eq!(lead(3, &[word(9, 1), word(9, 9), word(9, 0)], 7), Ok((1, 9)));
+        assert_eq!(lead(2, &[word(65_535, 65_535), word(65_535, 0)], 3), Ok((1, 65_535)));
+    }
+
     #[test]
     fn change_is_exact_at_both_ends() {
-        assert_eq!(change(2, &[MAX, 0], 3, 1, 0), Ok(4_294_967_295));
-        assert_eq!(change(2, &[MAX, 0], 3, 2, MAX), Ok(-4_294_967_295));
-        assert_eq!(change(2, &[7, 0], 3, 1, 7), Ok(0));
+        for diet in [0, 1, 65_535] {
+            assert_eq!(change(2, &[word(65_535, diet), 0], 3, 1, 0), Ok(65_535));
+            assert_eq!(change(2, &[word(65_535, diet), 0], 3, 2, MAX), Ok(-4_294_967_295));
+            assert_eq!(change(2, &[word(65_535, diet), 0], 3, 1, MAX), Ok(-4_294_901_760));
+        }
+        assert_eq!(change(2, &[word(7, 7), 0], 3, 1, 7), Ok(0));
         assert_eq!(change(2, &[7, 0], 1, 2, 7), Err(Refusal::Absent));
     }
 

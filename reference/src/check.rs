@@ -42,8 +42,7 @@ impl History {
         let a = record.a as usize - 1;
         match record.kind {
             1 => {
-                self.started.present |= bit(a);
-                self.started.values[a] = record.value;
+                self.started.set(a, record.value);
                 self.opened[a] = 1;
             }
             4 if !after.processes[a].has_decided() => self.opened[a] += 1,

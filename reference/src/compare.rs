@@ -6,12 +6,15 @@ use crate::gen::{self, Accepted, Adversary, Rng};
 use crate::layout::{bit, members};
 use crate::listed::{bits, by_rule, check_given, held, lengths, Call, Given};
 use crate::met::{
-    call, Lists, Met, GLOBAL_DATA, IN_TRANSIT, OF_BOTH_GROUNDS, OF_RECORD, OF_RUN, RUN, TELLING, WAITING,
+    call, Met, DECISION, GLOBAL_DATA, IN_TRANSIT, OF_BOTH_GROUNDS, OF_RECORD, OF_RUN, RUN, RUN_AFTER_OTHERS,
+    RUN_AT_ONCE, SHOWN, SHOWN_WORDS, TELLING, WAITING,
 };
 use crate::proved::Progress;
 use crate::record::index;
 use crate::refusal::number;
-use crate::{aggregates, proved, Bench, Cause, Closing, Counters, Ended, Record};
+use crate::summed::{self, any_lists, Aggregates, Asked, Lists};
+use crate::values::{self, Difference, Start};
+use crate::{proved, Bench, Cause, Closing, Counters, Ended, GlobalData, Record};
 use std::collections::BTreeMap;
 use std::fmt::Debug;
 
@@ -89,9 +92,9 @@ impl Pair {
         }
     }
 
-    /// Counts the byte in `decided` of the process that acts, for a record that passed checks 2 to 5.
+    /// Counts the byte in `decided` of the process that acts, for a record that passed checks 2 to 5 and 15.
     fn count_byte(&mut self, before: &[(u8, u8); Bench::MAX], record: &[u8], answer: u8) {
-        if matches!(answer, 2..=5) {
+        if matches!(answer, 2..=5 | 15) {
             return;
         }
         let event = Record::read(record).and_then(|record| record.event(self.plain.n, self.plain.t));
@@ -121,6 +124,8 @@ impl Pair {
         if plain == 0 {
             self.closing_by_rule(&before, record, closing);
         }
+        self.start_by_rule(record, plain);
+        self.count_held(&before, record, plain, closing);
         self.count_byte(&before, record, plain);
         self.met.records += 1;
         self.met.accepted += u64::from(plain == 0);
@@ -156,6 +161,32 @@ impl Pair {
         }
     }
 
+    /// 15 by the rule, so that the two are not only the same; counts what a start met. A refusal has left the state.
+    fn start_by_rule(&mut self, record: &[u8], answer: u8) {
+        let start = Start { bench: &self.proved, record, answer };
+        if !start.is_by_rule() {
+            panic!(
+                "{}, call {}: {record:?} gave {answer}, but not by the rule of 15",
+                self.place, self.calls
+            );
+        }
+        self.met.starts.count(&start);
+    }
+
+    /// Counts an estimate with too many diet portions after an accepted close, or after a decision that decides.
+    fn count_held(&mut self, before: &[(u8, u8); Bench::MAX], record: &[u8], answer: u8, closing: Closing) {
+        if answer != 0 {
+            return;
+        }
+        let held = |number: u8| has_too_many(&self.plain.processes[number as usize - 1].estimate);
+        let undecided = |number: u8| matches!(before[number as usize - 1], (1.., 0));
+        match *record {
+            [4, a, ..] if held(a) => self.met.held.count(closing.number() as usize - 1),
+            [3, _, b, 0, ..] if undecided(b) && held(b) => self.met.held.count(DECISION),
+            _ => {}
+        }
+    }
+
     /// One run; gives what is left.
     fn run<'a>(&mut self, schedule: &'a [u8], budget: u32) -> (Cause, &'a [u8]) {
         let before = self.bytes();
@@ -175,6 +206,10 @@ impl Pair {
         if let Cause::Refused(refused) = cause {
             self.met.records += 1;
             self.met.answer(refused);
+            self.start_by_rule(&rest[..rest.len().min(Bench::RECORD)], refused);
+        }
+        if cause == Cause::Refused(15) {
+            self.met.held.count(if accepted == 0 { RUN_AT_ONCE } else { RUN_AFTER_OTHERS });
         }
         self.met.closings.count(OF_RUN + usize::from(matches!(cause, Cause::Refused(_))), closing);
         (cause, rest)
@@ -231,9 +266,28 @@ impl Pair {
         self.same("entries", &proved_out, &plain_out);
         if let Ok(marks) = plain {
             let n = self.plain.n;
+            self.shown_by_rule(process, &proved_out);
             self.aggregates(rng, n, &plain_out[..n as usize], marks);
         }
         number(&plain)
+    }
+
+    /// The words are those of the state, whole, with 0 for absent.
+    fn shown_by_rule(&mut self, process: u8, out: &[u32]) {
+        let data = &self.proved.processes[process as usize - 1].estimate;
+        let rule = |i: usize| if data.present & bit(i) != 0 { data.values[i] } else { 0 };
+        let wrong = (0..self.proved.n as usize).find(|&i| out[i] != rule(i));
+        if let Some(i) = wrong {
+            panic!("{}, call {}: entry {i} of {process} is not the word held", self.place, self.calls);
+        }
+        if has_too_many(data) {
+            self.met.held.count(SHOWN);
+        }
+        for (i, word) in SHOWN_WORDS.into_iter().enumerate() {
+            if members(data.present).any(|entry| data.values[entry] == word) {
+                self.met.held.count(SHOWN + 1 + i);
+            }
+        }
     }
 
     /// The list in transit, in a slice of this length; gives its refusal or 0.
@@ -320,6 +374,23 @@ impl Pair {
         self.reads(rng);
     }
 
+    /// A close of a before the last round, where one of the estimates differs so or not at all: by the call for one,
+    /// by run, and by the rule.
+    fn nearly_agreed(&mut self, state: &Bench, a: usize, difference: Difference, rng: &mut Rng) {
+        let close = Record::close(a as u8 + 1).bytes();
+        self.put(state);
+        self.run(&close, 1);
+        self.put(state);
+        let answer = self.step(&close, rng);
+        let decided = self.proved.processes[a].has_decided();
+        let closing = if decided { Closing::Agreed } else { Closing::NextRound };
+        self.same("a close that is due", answer, 0);
+        if let Err(broken) = self.met.deciding.count(difference, closing) {
+            panic!("{}, call {}: {broken}", self.place, self.calls);
+        }
+        self.reads(rng);
+    }
+
     fn reads(&mut self, rng: &mut Rng) {
         self.show(rng);
         self.list(rng.pick(&[0, 3, 100, 1000, 3 * 16 * 16 * 17]), rng);
@@ -336,7 +407,7 @@ impl Pair {
 
     /// The four aggregates of these lists; once more with other words where none is read, which must not show.
     fn aggregates_of(&mut self, lists: Lists, asked: Asked) {
-        let (proved, plain) = (proved_aggregates(lists, asked), plain_aggregates(lists, asked));
+        let (proved, plain) = (proved_aggregates(lists, asked), summed::aggregates_of(lists, asked));
         self.calls += 4;
         plain.answers.iter().for_each(|&refused| self.met.answer(refused as u8));
         self.same("aggregates", proved.answers, plain.answers);
@@ -344,36 +415,18 @@ impl Pair {
         self.same("go", proved.go, plain.go);
         self.same("lead", proved.lead, plain.lead);
         self.same("change", proved.change, plain.change);
+        self.same("aggregates by the rule, the second", proved, summed::by_rule(lists, asked));
         self.met.totals.count(&lists, plain.answers[0], plain.total);
+        self.met.summed.count(lists, asked, &plain);
         let (entries, standing) = other_words(lists);
         let others = Lists { entries: &entries, standing: &standing, ..lists };
         self.same("aggregates with other words where none is read", proved_aggregates(others, asked), plain);
     }
 }
 
-/// What change is asked of, and what each lent word holds before, which a refusal must leave.
-#[derive(Clone, Copy)]
-struct Asked {
-    process: u8,
-    standing: u32,
-    old: u64,
-}
-
-impl Asked {
-    fn any(rng: &mut Rng, n: u8) -> Asked {
-        let (standing, old) = (rng.value(), rng.draw());
-        Asked { process: rng.pick(&[0, 1, 2, n, n.wrapping_add(1), old as u8]), standing, old }
-    }
-}
-
-/// The answers of total, go, lead and change, and the words lent to each after it.
-#[derive(PartialEq, Debug)]
-struct Aggregates {
-    answers: [u32; 4],
-    total: u64,
-    go: u8,
-    lead: (u8, u32),
-    change: i64,
+/// A present entry has more diet portions than portions.
+fn has_too_many(data: &GlobalData) -> bool {
+    members(data.present).any(|i| data.values[i] >> 16 > data.values[i] & 0xffff)
 }
 
 fn proved_aggregates(Lists { n, entries, marks, standing }: Lists, asked: Asked) -> Aggregates {
@@ -386,21 +439,6 @@ fn proved_aggregates(Lists { n, entries, marks, standing }: Lists, asked: Asked)
         proved::change(n, entries, marks, asked.process, asked.standing, &mut change),
     ];
     Aggregates { answers, total, go, lead, change }
-}
-
-fn plain_aggregates(Lists { n, entries, marks, standing }: Lists, asked: Asked) -> Aggregates {
-    let old = asked.old;
-    let total = aggregates::total(n, entries, marks, standing);
-    let go = aggregates::go(n, entries, marks);
-    let lead = aggregates::lead(n, entries, marks);
-    let change = aggregates::change(n, entries, marks, asked.process, asked.standing);
-    Aggregates {
-        answers: [number(&total), number(&go), number(&lead), number(&change)].map(u32::from),
-        total: total.unwrap_or(old),
-        go: go.map_or(old as u8, u8::from),
-        lead: lead.unwrap_or((old as u8, old as u32)),
-        change: change.unwrap_or(old as i64),
-    }
 }
 
 /// Entries and standing values with another word under each absent entry, and for each present one's standing value.
@@ -553,7 +591,7 @@ fn each_byte(state: &Bench, rng: &mut Rng, place: String) -> Met {
         let mut bench = *state;
         for p in &mut bench.processes {
             let draw = rng.draw();
-            p.decided = if draw % 2 == 0 { p.decided } else { (draw >> 8) as u8 };
+            p.decided = if draw.is_multiple_of(2) { p.decided } else { (draw >> 8) as u8 };
         }
         bench.processes[a].decided = byte;
         for record in &chosen {
@@ -607,7 +645,7 @@ pub fn any_aggregates(seed: u64) -> Met {
         let any = rng.draw() as u8;
         let n = rng.pick(&[0, 1, 2, 3, 12, 16, 17, any]);
         let length = if rng.percent(80) { n as usize } else { rng.below(20) };
-        let entries: Vec<u32> = (0..length).map(|_| rng.value()).collect();
+        let entries: Vec<u32> = (0..length).map(|_| rng.value().word()).collect();
         let all = if n < 16 { (1u16 << n) - 1 } else { u16::MAX };
         let among = if rng.percent(80) { all } else { u16::MAX };
         let marks = if rng.percent(30) { among } else { rng.subset(among) };
@@ -630,6 +668,74 @@ fn greatest_totals(pair: &mut Pair, rng: &mut Rng) {
     }
 }
 
+/// Aggregates of any entries, also such as have more diet portions than portions.
+fn value_aggregates(seed: u64) -> Met {
+    let mut rng = Rng::new(seed ^ 0x5e7a5);
+    let bench = Bench::open(1, 0).expect("a good size");
+    let mut pair = Pair::new(bench, format!("seed {seed}, aggregates of values"));
+    for _ in 0..4000 {
+        let (n, entries, marks, standing) = any_lists(&mut rng);
+        let asked = Asked::any(&mut rng, n);
+        pair.aggregates_of(Lists { n, entries: &entries, marks, standing: &standing }, asked);
+    }
+    pair.met
+}
+
+/// Starts of any value among the records of a schedule, one by one and by runs; then states that hold any values.
+pub fn any_values(n: u8, t: u8, seed: u64) -> Met {
+    let mut rng = Rng::new(seed ^ 0xd1e75 ^ (n as u64) << 48 ^ (t as u64) << 56);
+    let mut pair = Pair::opened(n, t, format!("seed {seed}, n {n}, t {t}, values"));
+    let open = pair.plain;
+    let records = values::records(n, t, rng.draw());
+    for record in &records {
+        pair.step(record, &mut rng);
+        if rng.percent(2) {
+            pair.reads(&mut rng);
+        }
+    }
+    pair.reads(&mut rng);
+    pair.put(&open);
+    let whole = records.into_iter().filter(|record| record.len() == Bench::RECORD);
+    pair.runs(&whole.flatten().collect::<Vec<u8>>(), &mut rng);
+    pair.reached = false;
+    for junk in [false, true] {
+        let state = gen::random_state(&mut rng, n, t, junk);
+        states_of_values(&mut pair, state, &mut rng);
+    }
+    for difference in Difference::ALL.into_iter().filter(|_| t > 0) {
+        let (state, a) = values::nearly_agreed(&mut rng, n, t, difference);
+        pair.nearly_agreed(&state, a, difference, &mut rng);
+    }
+    pair.met
+}
+
+/// A state with any values in all its data: stepped, run and read, then damaged.
+fn states_of_values(pair: &mut Pair, mut state: Bench, rng: &mut Rng) {
+    let (n, t) = (state.n, state.t);
+    values::spread(rng, &mut state);
+    let mut adversary = Adversary::new(rng.draw());
+    pair.put(&state);
+    let mut schedule = Vec::new();
+    for _ in 0..40 {
+        let accepted = if rng.percent(60) { adversary.accepted(&pair.plain) } else { None };
+        let any =
+            accepted.map_or_else(|| values::doubtful_start(rng, n, t), |record| record.bytes().to_vec());
+        pair.step(&any, rng);
+        schedule.extend(Some(any).filter(|record| record.len() == Bench::RECORD).into_iter().flatten());
+    }
+    pair.reads(rng);
+    pair.put(&state);
+    pair.runs(&schedule, rng);
+    pair.reads(rng);
+    pair.closes(&state, rng);
+    pair.reads(rng);
+    gen::damage(rng, &mut state);
+    pair.put(&state);
+    pair.step(&gen::start(1, values::exceeding(rng)).bytes(), rng);
+    pair.run(&schedule, 3);
+    pair.reads(rng);
+}
+
 /// Everything, for every n and t, from one seed: `schedules` schedules of each kind for each size.
 pub fn everything(seed: u64, schedules: u64) -> Met {
     let mut met = openings(seed);
@@ -646,6 +752,10 @@ pub fn everything(seed: u64, schedules: u64) -> Met {
     // After all else, so that what the rest finds first is still found there.
     for seed in seeds() {
         gen::sizes().for_each(|(n, t)| met.add(&lists(n, t, seed)));
+    }
+    for seed in seeds() {
+        met.add(&value_aggregates(seed));
+        gen::sizes().for_each(|(n, t)| met.add(&any_values(n, t, seed)));
     }
     met
 }

@@ -45,7 +45,7 @@ mod tests {
         let mut bench = Bench::open(2, 1).unwrap();
         let mut counters = Counters::default();
         let mut step = |record: &[u8]| number(&bench.step_counted(record, &mut counters));
-        assert_eq!(step(&Record::start(1, 0).bytes()), 0);
+        assert_eq!(step(&Record::start(1, 0, 0).bytes()), 0);
         assert_eq!(step(&Record::crash(2).bytes()), 0);
         assert_eq!(step(&Record::crash(2).bytes()), 6);
         assert_eq!(step(&[5]), 3);
@@ -69,7 +69,7 @@ mod tests {
         let mut bench = Bench::open(2, 1).unwrap();
         bench.crashed = 4;
         let mut counters = Counters::default();
-        let answer = bench.step_counted(&Record::start(1, 0).bytes(), &mut counters);
+        let answer = bench.step_counted(&Record::start(1, 0, 0).bytes(), &mut counters);
         assert_eq!(answer, Err(Refusal::Damaged));
         assert_eq!(counters, Counters { accepted: 0, refused: 1, crashes: 0 });
     }

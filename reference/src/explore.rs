@@ -8,13 +8,13 @@ use crate::check::{absent_only_if_crashed, check_closing, record_bound, valid, B
 use crate::gen::well_formed;
 use crate::layout::{bit, members};
 use crate::listed::{check_list, held, Listed};
-use crate::{Bench, GlobalData, Process, Record};
+use crate::{Bench, GlobalData, Process, Record, Value};
 
 /// The most processes that a packed state holds.
 pub const MOST: u8 = 3;
 
-/// The values started with; 0 is among them.
-pub const VALUES: [u32; MOST as usize] = [40, 0, 25];
+/// The values started with; 0 is among them, and a diet of all portions.
+pub const VALUES: [Value; MOST as usize] = [Value::new(40, 3), Value::ZERO, Value::new(25, 25)];
 
 /// What a walk found.
 #[derive(Clone, Copy, PartialEq, Eq, Debug, Default)]
@@ -149,8 +149,7 @@ impl Walk {
     fn started(&self) -> GlobalData {
         let mut started = GlobalData::ABSENT;
         for i in (0..self.bench.n as usize).filter(|&i| self.bench.processes[i].round > 0) {
-            started.present |= bit(i);
-            started.values[i] = VALUES[i];
+            started.set(i, VALUES[i]);
         }
         started
     }
@@ -236,7 +235,7 @@ impl Bits {
 
     /// Marks; the values must be those started with, so that the marks tell all.
     fn put_data(&mut self, data: &GlobalData, n: u32) -> Result<(), Broken> {
-        if members(data.present).any(|i| data.values[i] != VALUES[i]) {
+        if members(data.present).any(|i| data.value(i) != VALUES[i]) {
             return Err("validity: a value that none started with".into());
         }
         self.put(data.present, n);

@@ -1,7 +1,7 @@
 //! Random schedules, states and standing values, each from one seed.
 
 use crate::layout::{all, bit, members};
-use crate::{Bench, GlobalData, Process, Record};
+use crate::{Bench, GlobalData, Process, Record, Value};
 
 /// SplitMix64.
 #[derive(Clone, Debug)]
@@ -46,10 +46,18 @@ impl Rng {
         }
     }
 
-    /// A value, often at an end.
-    pub fn value(&mut self) -> u32 {
+    /// A number of 32 bits, often at an end.
+    pub fn number(&mut self) -> u32 {
         let any = self.draw() as u32;
         self.pick(&[0, 0, 1, 40, u32::MAX, any])
+    }
+
+    /// A value that a start may have, often at an end. It takes as many draws as a number.
+    pub fn value(&mut self) -> Value {
+        let any = self.draw();
+        let of = |portions: u16| Value::new(portions, ((any >> 16) % (portions as u64 + 1)) as u16);
+        let most = Value::new(u16::MAX, if any & 1 == 0 { 0 } else { u16::MAX });
+        self.pick(&[of(0), of(0), of(1), of(40), most, of(any as u16)])
     }
 }
 
@@ -58,7 +66,7 @@ pub fn sizes() -> impl Iterator<Item = (u8, u8)> {
     (1..=16).flat_map(|n| (0..n).map(move |t| (n, t)))
 }
 
-/// The records that a bench accepts, by kind; the value of a start is free and stands as 0.
+/// The records that a bench accepts, by kind; the value of a start stands as 0 and may be any that is not refused.
 pub struct Accepted {
     pub of_kind: [Vec<Record>; 7],
 }
@@ -71,7 +79,7 @@ impl Accepted {
             let p = &bench.processes[a];
             let (i, me) = (a as u8 + 1, bit(a));
             if p.round == 0 {
-                of_kind[1].push(Record::start(i, 0));
+                of_kind[1].push(Record::start(i, 0, 0));
             }
             of_kind[2].extend(members(p.outbox & !me).map(|b| Record::send(i, b as u8 + 1)));
             if due(p, a) {
@@ -121,7 +129,7 @@ fn arrivals(bench: &Bench, records: &mut Vec<Record>) {
 pub fn well_formed(n: u8, t: u8) -> Vec<Record> {
     let mut records = Vec::new();
     for a in 1..=n {
-        records.extend([Record::start(a, 0), Record::close(a), Record::crash(a)]);
+        records.extend([Record::start(a, 0, 0), Record::close(a), Record::crash(a)]);
         for b in (1..=n).filter(|&b| b != a) {
             records.extend([Record::send(a, b), Record::suspect(a, b)]);
             records.extend((0..=t + 1).map(|r| Record::arrive(a, b, r)));
@@ -220,13 +228,13 @@ impl Adversary {
     }
 }
 
-/// A record of 8 bytes, mostly refused: well formed or with a bad kind or field.
+/// A record of 8 bytes, mostly refused: well formed or with a bad kind or field. No start is refused for its value.
 pub fn doubtful(rng: &mut Rng, n: u8, t: u8) -> Record {
     let number = |rng: &mut Rng| 1 + rng.below(n as usize) as u8;
     let (a, b) = (number(rng), number(rng));
     let kind = 1 + rng.below(6) as u8;
     let mut record = match kind {
-        1 => Record::start(a, rng.value()),
+        1 => start(a, rng.value()),
         2 => Record::send(a, b),
         3 => Record::arrive(a, b, rng.below(t as usize + 2) as u8),
         4 => Record::close(a),
@@ -238,10 +246,20 @@ pub fn doubtful(rng: &mut Rng, n: u8, t: u8) -> Record {
         1 => record.a = rng.pick(&[0, n + 1, 17, 255]),
         2 => record.b = rng.pick(&[0, n + 1, 17, 255]),
         3 => record.r = rng.pick(&[1, t + 1, t + 2, 17, 255]),
-        4 => record.value = rng.pick(&[1, 256, 1 << 16, 1 << 24, 1 << 31]),
+        4 => {
+            let word = rng.pick(&[1, 256, 1 << 16, 1 << 24, 1 << 31]);
+            if kind != 1 {
+                record.value = Value::from_word(word);
+            }
+        }
         _ => {}
     }
     record
+}
+
+/// A start with this value.
+pub fn start(a: u8, value: Value) -> Record {
+    Record::start(a, value.portions, value.diet)
 }
 
 /// A record of the wrong length.
@@ -252,13 +270,16 @@ pub fn wrong_length(rng: &mut Rng) -> Vec<u8> {
 
 /// Records to give one by one: mostly accepted, `noise` in 100 doubtful or of a wrong length.
 pub fn records(n: u8, t: u8, seed: u64, noise: usize) -> Vec<Vec<u8>> {
-    records_by(Adversary::new(seed), n, t, noise)
+    records_by(Adversary::new(seed), n, t, noise, noisy)
 }
 
 /// More records than any schedule has, with its noise: past this the rules are wrong.
 const ENDLESS: usize = 100_000;
 
-fn records_by(mut adversary: Adversary, n: u8, t: u8, noise: usize) -> Vec<Vec<u8>> {
+/// A record that need not be accepted, on a bench of n and t.
+pub type Noisy = fn(&mut Rng, u8, u8) -> Vec<u8>;
+
+pub fn records_by(mut adversary: Adversary, n: u8, t: u8, noise: usize, noisy: Noisy) -> Vec<Vec<u8>> {
     let mut bench = Bench::open(n, t).expect("a good size");
     let mut records = Vec::new();
     loop {
@@ -298,7 +319,7 @@ pub fn schedule(n: u8, t: u8, seed: u64, noise: usize) -> Vec<u8> {
 
 /// A whole schedule in which nobody crashes, as one slice.
 pub fn schedule_without_crashes(n: u8, t: u8, seed: u64) -> Vec<u8> {
-    records_by(Adversary::without_crashes(seed), n, t, 0).concat()
+    records_by(Adversary::without_crashes(seed), n, t, 0, noisy).concat()
 }
 
 /// A state somewhere along a random schedule.
@@ -373,14 +394,15 @@ fn decided_byte(rng: &mut Rng) -> u8 {
     }
 }
 
-/// Few marks and values, so that equal data are not rare; words under absent entries are not 0.
-fn random_data(rng: &mut Rng, everyone: u16) -> GlobalData {
+/// Few marks and values, so that equal data are not rare; words under absent entries are not 0. In any word the diet
+/// may exceed the portions.
+pub fn random_data(rng: &mut Rng, everyone: u16) -> GlobalData {
     let mut data = GlobalData { present: everyone, values: [3; Bench::MAX] };
     if rng.percent(40) {
         data.present = rng.subset(everyone);
     }
     if rng.percent(30) {
-        data.values = std::array::from_fn(|_| rng.value());
+        data.values = std::array::from_fn(|_| rng.number());
     }
     data
 }
@@ -392,7 +414,7 @@ pub fn standing(rng: &mut Rng, n: u8) -> Vec<u32> {
     let any = rng.below(20);
     let length = rng.pick(&[n, n, n, n, n, n.saturating_sub(1), n + 1, 0, any]);
     if rng.percent(50) {
-        return (0..length).map(|_| rng.value()).collect();
+        return (0..length).map(|_| rng.number()).collect();
     }
     // An odd step does not come round; a step of 1 from near the end has the largest value and 0 side by side.
     let draw = rng.draw();

@@ -1,9 +1,9 @@
 //! The state of a bench. Every set is a bit set: bit i is process i, counted from 0.
 //! After "paper:" stands the paper's own word.
 
-use crate::Refusal;
+use crate::{Refusal, Value};
 
-/// A value or absent, for each process (paper: sheet). Bit i of `present` marks entry i.
+/// A value or absent, for each process (paper: sheet). Bit i of `present` marks entry i; a value stands as its word.
 #[repr(C)]
 #[derive(Clone, Copy, PartialEq, Eq, Hash, Debug)]
 pub struct GlobalData {
@@ -84,13 +84,24 @@ impl GlobalData {
     pub const ABSENT: GlobalData = GlobalData { present: 0, values: [0; Bench::MAX] };
 
     /// Entry i, if present.
-    pub fn entry(&self, i: usize) -> Option<u32> {
-        (self.present & bit(i) != 0).then(|| self.values[i])
+    pub fn entry(&self, i: usize) -> Option<Value> {
+        (self.present & bit(i) != 0).then(|| self.value(i))
     }
 
-    /// Equal entry by entry; words under absent entries do not count.
+    /// The value that the word of entry i is, present or not.
+    pub fn value(&self, i: usize) -> Value {
+        Value::from_word(self.values[i])
+    }
+
+    /// Entry i becomes present.
+    pub fn set(&mut self, i: usize, value: Value) {
+        self.present |= bit(i);
+        self.values[i] = value.word();
+    }
+
+    /// Equal entry by entry, in portions and diet portions; words under absent entries do not count.
     pub fn same(&self, other: &GlobalData) -> bool {
-        self.present == other.present && members(self.present).all(|i| self.values[i] == other.values[i])
+        self.present == other.present && members(self.present).all(|i| self.value(i) == other.value(i))
     }
 
     /// Absent entries take those of `other`.

@@ -30,7 +30,10 @@ pub mod refusal;
 pub mod run;
 pub mod simulate;
 pub mod step;
+pub mod summed;
 pub mod text;
+pub mod value;
+pub mod values;
 
 pub use closing::Closing;
 pub use counters::Counters;
@@ -38,3 +41,4 @@ pub use layout::{Bench, GlobalData, Process};
 pub use record::{Event, Message, Record};
 pub use refusal::Refusal;
 pub use run::{Cause, Ended};
+pub use value::Value;

@@ -3,22 +3,55 @@
 use crate::kinds::Kinds;
 use crate::layout::{all, members};
 use crate::listed::Listed;
+use crate::summed::{Lists, Summed};
+use crate::values::{Deciding, Starts};
 use crate::{Closing, Event, Message};
 use std::cmp::Ordering::{self, Equal, Greater, Less};
 use std::ops::Range;
 
-/// What was met: records given, answers by their number, 0 for none refused, closings, bytes in `decided`, totals, and
-/// lists in transit, first of other states, then of those that a schedule reaches.
+/// What was met: records given, answers by their number, 0 for none refused, closings, bytes in `decided`, totals,
+/// lists in transit, first of other states, then of those that a schedule reaches; and of diet portions starts,
+/// aggregates, closes of nearly equal estimates, and what had too many of them.
 #[derive(Clone, Default, Debug)]
 pub struct Met {
     pub records: u64,
     pub accepted: u64,
-    pub answers: [u64; 13],
+    pub answers: [u64; 16],
     pub closings: Closings,
     pub bytes: Bytes,
     pub totals: Totals,
     pub listed: [Listed; 2],
+    pub starts: Starts,
+    pub summed: Summed,
+    pub deciding: Deciding,
+    pub held: Held,
 }
+
+/// How often each of `HELD` was met.
+#[derive(Clone, Default, Debug)]
+pub struct Held(Kinds<{ HELD.len() }>);
+
+/// What can come of more diet portions than portions, in an estimate after a step, in what is read and in a run's
+/// record; and what else can be read.
+const HELD: [&str; 10] = [
+    "close to the next round",
+    "close that agrees",
+    "close of the last round",
+    "decision that decides",
+    "run refused at once",
+    "run refused after others",
+    "global data",
+    "global data of 0/0",
+    "global data of 65535/0",
+    "global data of 65535/65535",
+];
+/// Places in `HELD`; a close is at the number of its closing less 1.
+pub const DECISION: usize = 3;
+pub const RUN_AT_ONCE: usize = 4;
+pub const RUN_AFTER_OTHERS: usize = 5;
+pub const SHOWN: usize = 6;
+/// The words whose places are the three after it.
+pub const SHOWN_WORDS: [u32; 3] = [0, 0xffff, 0xffff_ffff];
 
 /// How often each closing was met, by its number, and where, as in `ENDS`.
 #[derive(Clone, Default, Debug)]
@@ -41,15 +74,6 @@ pub const OF_BOTH_GROUNDS: usize = 4;
 #[derive(Clone, Default, Debug)]
 pub struct Totals(Kinds<{ TOTALS.len() }>);
 
-/// What the aggregates are given; total alone takes the standing values.
-#[derive(Clone, Copy)]
-pub struct Lists<'a> {
-    pub n: u8,
-    pub entries: &'a [u32],
-    pub marks: u16,
-    pub standing: &'a [u32],
-}
-
 /// Whether a total was one of these, by what it was given, its refusal or 0, and its sum.
 type Meets = fn(&Lists, u32, u64) -> bool;
 
@@ -67,15 +91,14 @@ const TOTALS: [(&str, Meets); 12] = [
     }),
     // Not the greatest, for which `compare` chooses the standing values.
     ("absent with standing not 0", |x, refused, sum| {
-        refused == 0 && sum < GREATEST && members(all(x.n) & !x.marks).any(|i| x.standing[i] != 0)
+        refused == 0 && sum < x.greatest() && members(all(x.n) & !x.marks).any(|i| x.standing[i] != 0)
     }),
-    ("greatest of all present", |x, refused, sum| refused == 0 && sum == GREATEST && x.marks == u16::MAX),
-    ("greatest of all absent", |x, refused, sum| refused == 0 && sum == GREATEST && x.marks == 0),
+    ("greatest of all present", |x, refused, sum| refused == 0 && sum == x.greatest() && x.marks == u16::MAX),
+    ("greatest of all absent", |x, refused, sum| refused == 0 && sum == x.greatest() && x.marks == 0),
     ("greatest of both", |x, refused, sum| {
-        refused == 0 && sum == GREATEST && !matches!(x.marks, 0 | u16::MAX)
+        refused == 0 && sum == x.greatest() && !matches!(x.marks, 0 | u16::MAX)
     }),
 ];
-const GREATEST: u64 = 16 * u32::MAX as u64;
 
 /// How often each byte in `decided` was met, by call and by what came of it, as in `CALLS`.
 #[derive(Clone, Debug)]
@@ -193,6 +216,11 @@ impl Lists<'_> {
         let n = self.n as usize;
         (self.entries.len().cmp(&n), self.standing.len().cmp(&n))
     }
+
+    /// Of 16 processes, with the most portions in each present entry and the largest standing value for each other.
+    fn greatest(&self) -> u64 {
+        self.marks.count_ones() as u64 * 65_535 + self.marks.count_zeros() as u64 * u32::MAX as u64
+    }
 }
 
 impl Totals {
@@ -210,6 +238,20 @@ impl Totals {
     }
 }
 
+impl Held {
+    pub fn count(&mut self, place: usize) {
+        self.0.count(std::array::from_fn(|i| i == place));
+    }
+
+    /// What could be met and was not.
+    pub fn missing(&self) -> Vec<&'static str> {
+        self.0.missing().map(|i| HELD[i]).collect()
+    }
+}
+
+/// The refusals of the calls on a bench and of the aggregates.
+const REFUSALS: [usize; 13] = [1, 2, 3, 4, 5, 6, 7, 8, 9, 10, 11, 12, 15];
+
 impl Met {
     pub fn answer(&mut self, number: u8) {
         self.answers[number as usize] += 1;
@@ -222,19 +264,37 @@ impl Met {
         self.bytes.add(&other.bytes);
         self.totals.0.add(&other.totals.0);
         self.listed.iter_mut().zip(&other.listed).for_each(|(sum, more)| sum.add(more));
+        self.starts.add(&other.starts);
+        self.summed.add(&other.summed);
+        self.deciding.add(&other.deciding);
+        self.held.0.add(&other.held.0);
         for (sum, more) in self.answers.iter_mut().zip(other.answers) {
             *sum += more;
         }
     }
 
-    /// The refusals of the paper's table that were not met.
+    /// The refusals that were not met.
     pub fn missing(&self) -> Vec<usize> {
-        (1..=12).filter(|&number| self.answers[number] == 0).collect()
+        REFUSALS.into_iter().filter(|&number| self.answers[number] == 0).collect()
+    }
+
+    /// What could be met of diet portions and was not.
+    pub fn missing_values(&self) -> Vec<String> {
+        let named = |names: Vec<&'static str>, of: &str| -> Vec<String> {
+            names.into_iter().map(|name| format!("{of}: {name}")).collect()
+        };
+        let deciding =
+            self.deciding.missing().into_iter().map(|difference| format!("closes: {difference:?}"));
+        let mut missing: Vec<String> = deciding.collect();
+        missing.extend(named(self.starts.missing(), "starts"));
+        missing.extend(named(self.summed.missing(), "aggregates"));
+        missing.extend(named(self.held.missing(), "too many diet portions"));
+        missing
     }
 
     pub fn report(&self) -> String {
         let refusals: Vec<String> =
-            (1..=12).map(|number| format!("{number}: {}", self.answers[number])).collect();
+            REFUSALS.iter().map(|&number| format!("{number}: {}", self.answers[number])).collect();
         format!(
             "{} records, {} accepted; refusals {}; closings {}; totals {}; lists of schedules {}, of other states {}",
             self.records,
@@ -244,6 +304,17 @@ impl Met {
             self.totals.report(),
             self.listed[1].report(),
             self.listed[0].report()
+        )
+    }
+
+    /// Of diet portions.
+    pub fn report_values(&self) -> String {
+        format!(
+            "starts {}; aggregates {}; closes where one differs in {}; too many diet portions {}",
+            self.starts.report(),
+            self.summed.report(),
+            self.deciding.report(),
+            self.held.0.report(HELD)
         )
     }
 }

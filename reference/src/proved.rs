@@ -103,10 +103,12 @@ pub fn run(bench: &mut Bench, schedule: &[u8], budget: u32) -> (Cause, Progress)
     let ended = unsafe {
         library::gerzulan_bench_run(bench, schedule.as_ptr(), schedule.len(), budget, &mut progress)
     };
+    // A refusal is 16 and its number, so that 15 is 31.
     let cause = match ended {
         0 => Cause::Done,
         1 => Cause::Spent,
-        _ => Cause::Refused((ended - 16) as u8),
+        17..=31 => Cause::Refused((ended - 16) as u8),
+        _ => panic!("a run that ended by {ended}"),
     };
     (cause, progress)
 }

@@ -2,7 +2,7 @@
 
 use crate::layout::{bit, members};
 use crate::record::index;
-use crate::{Bench, GlobalData, Refusal};
+use crate::{Bench, GlobalData, Refusal, Value};
 
 impl Bench {
     /// Writes the decided data of process `number` to `out`, absent as 0, and gives its marks.
@@ -15,7 +15,7 @@ impl Bench {
             return Err(Refusal::Undecided);
         }
         for (i, word) in out.iter_mut().enumerate() {
-            *word = p.estimate.entry(i).unwrap_or(0);
+            *word = p.estimate.entry(i).map_or(0, Value::word);
         }
         Ok(p.estimate.present)
     }
@@ -123,7 +123,7 @@ mod tests {
     fn in_transit_refusals() {
         let mut bench = Bench::open(2, 1).unwrap();
         assert_eq!(bench.list_in_transit(&mut []), Ok(0));
-        bench.step(&Record::start(1, 0).bytes()).unwrap();
+        bench.step(&Record::start(1, 0, 0).bytes()).unwrap();
         bench.step(&Record::send(1, 2).bytes()).unwrap();
         let mut out = [9; 2];
         assert_eq!(bench.list_in_transit(&mut out), Err(Refusal::Slice));

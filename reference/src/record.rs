@@ -1,6 +1,6 @@
-//! Records: 8 bytes, kind, a, b, r, then the value, low byte first.
+//! Records: 8 bytes, kind, a, b, r, then the value: portions and diet portions, low bytes first.
 
-use crate::{Bench, Refusal};
+use crate::{Bench, Refusal, Value};
 
 /// The fields of a record as they stand in its bytes; processes are numbered from 1.
 #[derive(Clone, Copy, PartialEq, Eq, Debug, Default)]
@@ -9,7 +9,7 @@ pub struct Record {
     pub a: u8,
     pub b: u8,
     pub r: u8,
-    pub value: u32,
+    pub value: Value,
 }
 
 /// What travels: the estimate of a round, or the decision.
@@ -19,12 +19,12 @@ pub enum Message {
     Decision,
 }
 
-/// A record that passed checks 3 to 5; processes are counted from 0.
+/// A record that passed checks 3 to 5 and 15; processes are counted from 0.
 #[derive(Clone, Copy, PartialEq, Eq, Debug)]
 pub enum Event {
     Start {
         a: usize,
-        value: u32,
+        value: Value,
     },
     Send {
         a: usize,
@@ -77,41 +77,41 @@ impl Record {
     /// The opening record of a program's input.
     pub const OPEN: u8 = 0;
 
-    pub fn new(kind: u8, a: u8, b: u8, r: u8, value: u32) -> Record {
+    pub fn new(kind: u8, a: u8, b: u8, r: u8, value: Value) -> Record {
         Record { kind, a, b, r, value }
     }
 
     pub fn open(n: u8, t: u8) -> Record {
-        Record::new(Record::OPEN, n, t, 0, 0)
+        Record::new(Record::OPEN, n, t, 0, Value::ZERO)
     }
 
-    pub fn start(a: u8, value: u32) -> Record {
-        Record::new(1, a, 0, 0, value)
+    pub fn start(a: u8, portions: u16, diet: u16) -> Record {
+        Record::new(1, a, 0, 0, Value { portions, diet })
     }
 
     pub fn send(a: u8, b: u8) -> Record {
-        Record::new(2, a, b, 0, 0)
+        Record::new(2, a, b, 0, Value::ZERO)
     }
 
     /// Round 0 is the decision.
     pub fn arrive(a: u8, b: u8, r: u8) -> Record {
-        Record::new(3, a, b, r, 0)
+        Record::new(3, a, b, r, Value::ZERO)
     }
 
     pub fn close(a: u8) -> Record {
-        Record::new(4, a, 0, 0, 0)
+        Record::new(4, a, 0, 0, Value::ZERO)
     }
 
     pub fn crash(a: u8) -> Record {
-        Record::new(5, a, 0, 0, 0)
+        Record::new(5, a, 0, 0, Value::ZERO)
     }
 
     pub fn suspect(a: u8, b: u8) -> Record {
-        Record::new(6, a, b, 0, 0)
+        Record::new(6, a, b, 0, Value::ZERO)
     }
 
     pub fn bytes(self) -> [u8; Bench::RECORD] {
-        let v = self.value.to_le_bytes();
+        let v = self.value.bytes();
         [self.kind, self.a, self.b, self.r, v[0], v[1], v[2], v[3]]
     }
 
@@ -119,35 +119,37 @@ impl Record {
     pub fn read(bytes: &[u8]) -> Result<Record, Refusal> {
         match *bytes {
             [kind, a, b, r, v0, v1, v2, v3] => {
-                let value = u32::from_le_bytes([v0, v1, v2, v3]);
+                let value = Value::from_bytes([v0, v1, v2, v3]);
                 Ok(Record { kind, a, b, r, value })
             }
             _ => Err(Refusal::Length),
         }
     }
 
-    /// The event on a bench of n and t, or refusal 4 or 5.
+    /// The event on a bench of n and t, or refusal 4, 5 or 15.
     pub fn event(self, n: u8, t: u8) -> Result<Event, Refusal> {
         let Record { kind, b, r, value, .. } = self;
         match kind {
             1 => {
                 self.unused(b == 0 && r == 0)?;
-                Ok(Event::Start { a: index(self.a, n)?, value })
+                let a = index(self.a, n)?;
+                value.check()?;
+                Ok(Event::Start { a, value })
             }
             2 => {
-                self.unused(r == 0 && value == 0)?;
+                self.unused(r == 0 && value == Value::ZERO)?;
                 let (a, b) = self.pair(n)?;
                 Ok(Event::Send { a, b })
             }
             3 => {
-                self.unused(value == 0)?;
+                self.unused(value == Value::ZERO)?;
                 let (a, b) = self.pair(n)?;
                 Ok(Event::Arrive { a, b, message: message(r, t)? })
             }
             4 => Ok(Event::Close { a: self.alone(n)? }),
             5 => Ok(Event::Crash { a: self.alone(n)? }),
             6 => {
-                self.unused(r == 0 && value == 0)?;
+                self.unused(r == 0 && value == Value::ZERO)?;
                 let (a, b) = self.pair(n)?;
                 Ok(Event::Suspect { a, b })
             }
@@ -165,7 +167,7 @@ impl Record {
 
     /// a, where nothing else is used.
     fn alone(self, n: u8) -> Result<usize, Refusal> {
-        self.unused(self.b == 0 && self.r == 0 && self.value == 0)?;
+        self.unused(self.b == 0 && self.r == 0 && self.value == Value::ZERO)?;
         index(self.a, n)
     }
 
@@ -202,7 +204,7 @@ mod tests {
 
     #[test]
     fn bytes_and_back() {
-        let record = Record::start(3, 0x0102_0304);
+        let record = Record::start(3, 0x0304, 0x0102);
         assert_eq!(record.bytes(), [1, 3, 0, 0, 4, 3, 2, 1]);
         assert_eq!(Record::read(&record.bytes()), Ok(record));
         assert_eq!(Record::read(&[4, 1, 0, 0, 0, 0, 0]), Err(Refusal::Length));
@@ -210,7 +212,7 @@ mod tests {
     }
 
     fn refused(kind: u8, a: u8, b: u8, r: u8, value: u32) -> u8 {
-        Record::new(kind, a, b, r, value).event(3, 1).err().map_or(0, Refusal::number)
+        Record::new(kind, a, b, r, Value::from_word(value)).event(3, 1).err().map_or(0, Refusal::number)
     }
 
     #[test]
@@ -236,7 +238,8 @@ mod tests {
             }
             assert_eq!(refused(kind, 1, b, 1, value), if kind == 3 { 0 } else { 5 });
             assert_eq!(refused(kind, 1, b, 3, value), 5);
-            assert_eq!(refused(kind, 1, b, r, 1 << 31), if kind == 1 { 0 } else { 5 });
+            assert_eq!(refused(kind, 1, b, r, 1 << 15), if kind == 1 { 0 } else { 5 });
+            assert_eq!(refused(kind, 1, b, r, 1 << 31), if kind == 1 { 15 } else { 5 });
         }
     }
 }

@@ -32,6 +32,8 @@ pub enum Refusal {
     Calendar = 13,
     /// A week in which no site takes part.
     NoSite = 14,
+    /// More diet portions than portions, in a start or in an entry given to an aggregate.
+    Diet = 15,
 }
 
 impl Refusal {

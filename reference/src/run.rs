@@ -67,7 +67,7 @@ mod tests {
 
     #[test]
     fn causes_in_order() {
-        let bytes = schedule(&[Record::start(1, 7), Record::close(1)]);
+        let bytes = schedule(&[Record::start(1, 7, 0), Record::close(1)]);
         let open = Bench::open(1, 0).unwrap();
 
         let mut bench = open;
@@ -84,7 +84,7 @@ mod tests {
 
     #[test]
     fn short_last_part() {
-        let mut bytes = schedule(&[Record::start(1, 7)]);
+        let mut bytes = schedule(&[Record::start(1, 7, 0)]);
         bytes.extend([4, 1, 0]);
         let mut bench = Bench::open(1, 0).unwrap();
         assert_eq!(bench.run(&bytes, 9), ended(1, Cause::Refused(3), Closing::None, &[4, 1, 0]));
@@ -95,7 +95,7 @@ mod tests {
     #[test]
     fn damaged_state_comes_first() {
         let mut bench = Bench::open(1, 0).unwrap();
-        bench.step(&Record::start(1, 7).bytes()).unwrap();
+        bench.step(&Record::start(1, 7, 0).bytes()).unwrap();
         bench.processes[15].round = 2;
         let before = bench;
         let bytes = schedule(&[Record::close(1)]);

@@ -1,7 +1,7 @@
 //! The program of the paper: records in, one line each, then a `T` line for each process.
 
 use crate::refusal::number;
-use crate::{Bench, Record, Refusal};
+use crate::{Bench, Record, Refusal, Value};
 use std::fmt::Write;
 
 /// The whole output for the whole input.
@@ -19,7 +19,7 @@ fn open(bytes: &[u8]) -> Result<Bench, Refusal> {
     if record.kind != Record::OPEN {
         return Err(Refusal::Kind);
     }
-    if record.r != 0 || record.value != 0 {
+    if record.r != 0 || record.value != Value::ZERO {
         return Err(Refusal::Field);
     }
     Bench::open(record.a, record.b)

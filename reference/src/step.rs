@@ -1,7 +1,7 @@
 //! One record: the protocol steps, in place.
 
 use crate::layout::{bit, members};
-use crate::{Bench, Closing, Event, GlobalData, Message, Record, Refusal};
+use crate::{Bench, Closing, Event, GlobalData, Message, Record, Refusal, Value};
 
 type Answer = Result<(), Refusal>;
 
@@ -33,15 +33,14 @@ impl Bench {
         Ok(Closing::None)
     }
 
-    fn start(&mut self, a: usize, value: u32) -> Answer {
+    fn start(&mut self, a: usize, value: Value) -> Answer {
         let everyone = self.everyone();
         let p = &mut self.processes[a];
         if p.round != 0 {
             return Err(Refusal::NotDue);
         }
         p.estimate = GlobalData::ABSENT;
-        p.estimate.present = bit(a);
-        p.estimate.values[a] = value;
+        p.estimate.set(a, value);
         p.previous = everyone;
         p.current = everyone & !p.suspected;
         self.open_round(a);

@@ -40,6 +40,7 @@ fn answer(bench: &Bench, line: &str) -> u8 {
     number(&answer)
 }
 
+/// Entries without diet portions.
 fn data(entries: &[Option<u32>]) -> GlobalData {
     let mut data = GlobalData::ABSENT;
     for (i, entry) in entries.iter().enumerate() {
@@ -91,9 +92,9 @@ fn case_3_value_0_is_present() {
     assert_eq!(bench.global_data(1, &mut out), Ok(1));
     assert_eq!(out, [0]);
 
-    // The program shows it as 0.
+    // The program shows it.
     let input = encode("open 1 0\nstart 1 0\nclose 1").unwrap();
-    assert_eq!(simulate(&input), "1 0\n2 0\nT 1 1 0 1 0\n");
+    assert_eq!(simulate(&input), "1 0\n2 0\nT 1 1 0 1 0/0\n");
 
     // It also fills another's absent entry.
     let text = "open 2 0\nstart 1 0\nstart 2 5\nsend 1 2\nsend 2 1\narrive 1 2 round 1\nclose 2";
@@ -119,7 +120,7 @@ const CASE_4: [u8; 13 * 8] = [
 #[test]
 fn case_4_program() {
     let expected = "1 0\n2 0\n3 0\n4 0\n5 0\n6 0\n7 0\n8 0\n9 0\n10 8\n11 0\n12 0\n\
-                    T 1 2 0 1 40 25\nT 2 1 1 0 - 25\n";
+                    T 1 2 0 1 40/0 25/0\nT 2 1 1 0 - 25/0\n";
     assert_eq!(simulate(&CASE_4), expected);
 }
 

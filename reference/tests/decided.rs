@@ -1,7 +1,7 @@
 //! Every byte in `decided`: not 0 is decided, a step that decides writes 1, and no other step changes the byte.
 
 use reference::gen::{random_state, reached_state, well_formed, Rng};
-use reference::{Bench, Record, Refusal};
+use reference::{Bench, Record, Refusal, Value};
 
 const SIZES: [(u8, u8); 5] = [(1, 0), (2, 1), (3, 1), (3, 2), (4, 2)];
 
@@ -91,8 +91,8 @@ fn a_decision_writes_1() {
     let mut bench = Bench::open(2, 0).unwrap();
     assert_eq!(bytes(&bench), [0; 16]);
     let before = [
-        Record::start(1, 5),
-        Record::start(2, 6),
+        Record::start(1, 5, 0),
+        Record::start(2, 6, 1),
         Record::send(1, 2),
         Record::send(2, 1),
         Record::arrive(2, 1, 1),
@@ -114,13 +114,13 @@ fn a_start_leaves_the_byte() {
     for byte in 1..=255 {
         let mut bench = Bench::open(2, 1).unwrap();
         bench.processes[0].decided = byte;
-        accept(&mut bench, Record::start(1, 40));
+        accept(&mut bench, Record::start(1, 40, 3));
         assert_eq!(bytes(&bench)[..2], [byte, 0]);
-        assert_eq!(bench.decision(1).map(|data| data.entry(0)), Ok(Some(40)));
+        assert_eq!(bench.decision(1).map(|data| data.entry(0)), Ok(Some(Value::new(40, 3))));
         accept(&mut bench, Record::send(1, 2));
         assert_eq!((bench.in_transit[0], bench.in_transit[1]), (0b10, 0));
         assert_eq!(bench.step(&Record::close(1).bytes()), Err(Refusal::NotDue));
-        accept(&mut bench, Record::start(2, 25));
+        accept(&mut bench, Record::start(2, 25, 0));
         accept(&mut bench, Record::arrive(1, 2, 0));
         assert_eq!(bytes(&bench)[..2], [byte, 1]);
     }

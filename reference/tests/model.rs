@@ -4,10 +4,11 @@ use reference::check::Broken;
 use reference::gen::{records, schedule, sizes, Rng};
 use reference::listed::{check_list, InTransit, Listed};
 use reference::refusal::number;
-use reference::{Bench, Cause, Closing, Ended, Record};
+use reference::{values, Bench, Cause, Closing, Ended, Record};
 use std::collections::{BTreeMap, BTreeSet};
 
-type Data = Vec<Option<u32>>;
+/// Portions and diet portions of each entry that is present.
+type Data = Vec<Option<(u32, u32)>>;
 type Set = BTreeSet<u8>;
 /// How often a closing was met, by its number.
 type Met = [u64; 4];
@@ -51,37 +52,40 @@ impl Model {
         (1..=self.n).collect()
     }
 
-    fn good_fields(&self, record: Record) -> bool {
-        let Record { kind, a, b, r, value } = record;
+    fn good_fields(&self, record: &[u8; 8]) -> bool {
+        let &[kind, a, b, r, ref value @ ..] = record;
+        let unused = *value == [0; 4];
         let process = |p| p >= 1 && p <= self.n;
         let two = process(b) && a != b;
         process(a)
             && match kind {
                 1 => b == 0 && r == 0,
-                2 | 6 => two && r == 0 && value == 0,
-                3 => two && r <= self.t + 1 && value == 0,
-                _ => b == 0 && r == 0 && value == 0,
+                2 | 6 => two && r == 0 && unused,
+                3 => two && r <= self.t + 1 && unused,
+                _ => b == 0 && r == 0 && unused,
             }
     }
 
     fn step(&mut self, bytes: &[u8]) -> u8 {
         self.closing = Closing::None;
-        if bytes.len() != 8 {
-            return 3;
-        }
-        let record = Record::read(bytes).unwrap();
-        let Record { kind, a, b, r, value } = record;
+        let Ok(record) = <&[u8; 8]>::try_from(bytes) else { return 3 };
+        let &[kind, a, b, r, ref value @ ..] = record;
         if !(1..=6).contains(&kind) {
             return 4;
         }
         if !self.good_fields(record) {
             return 5;
         }
+        let [p0, p1, d0, d1] = value.map(u32::from);
+        let (portions, diet) = (p0 + 256 * p1, d0 + 256 * d1);
+        if kind == 1 && diet > portions {
+            return 15;
+        }
         if self.crashed.contains(if kind == 3 { &b } else { &a }) {
             return 6;
         }
         match kind {
-            1 => self.start(a, value),
+            1 => self.start(a, (portions, diet)),
             2 => self.send(a, b),
             3 => self.arrive(a, b, r),
             4 => self.close(a),
@@ -90,7 +94,7 @@ impl Model {
         }
     }
 
-    fn start(&mut self, a: u8, value: u32) -> u8 {
+    fn start(&mut self, a: u8, value: (u32, u32)) -> u8 {
         let everyone = self.everyone();
         let node = &mut self.nodes[a as usize];
         if node.round > 0 {
@@ -222,10 +226,18 @@ fn set(bits: u16) -> Set {
     (1..=16).filter(|i| bits >> (i - 1) & 1 == 1).collect()
 }
 
+/// Portions and diet portions of a word.
+fn parts(word: u32) -> (u32, u32) {
+    (word % 65_536, word / 65_536)
+}
+
 fn same_process(model: &Model, bench: &Bench, number: u8) {
     let node = &model.nodes[number as usize];
     let p = &bench.processes[number as usize - 1];
-    let estimate: Data = (0..model.n as usize).map(|i| p.estimate.entry(i)).collect();
+    let entry = |i| set(p.estimate.present).contains(&(i as u8 + 1)).then(|| parts(p.estimate.values[i]));
+    let estimate: Data = (0..model.n as usize).map(entry).collect();
+    let shown = |i| p.estimate.entry(i).map(|value| (value.portions.into(), value.diet.into()));
+    assert_eq!((0..model.n as usize).map(shown).collect::<Data>(), estimate);
     assert_eq!((p.round, p.has_decided(), &estimate), (node.round, node.decided, &node.estimate));
     assert_eq!((set(p.previous), set(p.current)), (node.previous.clone(), node.current.clone()));
     assert_eq!((set(p.suspected), set(p.outbox)), (node.suspected.clone(), node.outbox.clone()));
@@ -238,12 +250,17 @@ fn same_list(model: &Model, bench: &Bench, turn: usize, listed: &mut Listed) -> 
     check_list(bench, &messages, turn, listed)
 }
 
-/// Answers, closings, lists in transit and states are the same at each record. Gives how often each closing was met.
+/// A schedule with 20 in 100 records doubtful.
 fn compare(n: u8, t: u8, seed: u64, listed: &mut Listed) -> Met {
+    compare_records(n, t, seed, &records(n, t, seed, 20), listed)
+}
+
+/// Answers, closings, lists in transit and states are the same at each record. Gives how often each closing was met.
+fn compare_records(n: u8, t: u8, seed: u64, records: &[Vec<u8>], listed: &mut Listed) -> Met {
     let mut met = Met::default();
     let mut model = Model::new(n, t);
     let mut bench = Bench::open(n, t).unwrap();
-    for (i, record) in records(n, t, seed, 20).iter().enumerate() {
+    for (i, record) in records.iter().enumerate() {
         let told = format!("n {n}, t {t}, seed {seed}, record {}: {record:?}", i + 1);
         let before = bench;
         let answer = bench.step(record);
@@ -322,6 +339,19 @@ fn bench_and_model_agree_on_small_sizes() {
     println!("closings of records: {met:?}");
     assert!(!met.contains(&0), "{met:?}");
     every_list(6, &listed);
+}
+
+/// With starts of any value, every size: half of the records, and most of them with too many diet portions.
+#[test]
+fn bench_and_model_agree_on_values() {
+    let mut listed = Listed::default();
+    let mut seeds = Rng::new(4);
+    for (n, t) in sizes() {
+        for _ in 0..if n <= 6 { 40 } else { 2 } {
+            let seed = seeds.draw() >> 32;
+            compare_records(n, t, seed, &values::records(n, t, seed), &mut listed);
+        }
+    }
 }
 
 #[test]

@@ -20,6 +20,7 @@ fn main() {
         met.add(&decided_bytes(seed));
         of_calendars.add(&calendars(seed, CALENDARS));
         seed += 1;
-        println!("seeds {first} to {}: {}; {}", seed - 1, met.report(), of_calendars.report());
+        let reports = [met.report(), met.report_values(), of_calendars.report()].join("; ");
+        println!("seeds {first} to {}: {reports}", seed - 1);
     }
 }

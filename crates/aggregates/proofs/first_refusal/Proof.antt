@@ -50,27 +50,28 @@ diets-fit-requires c κs =
     let b = c .before .before .before in
     omega (arith, c .before .if4 .left, one-high 16 _ (sized (b .before .before)))
 
+-- the loop's test is the definition's, of n entries
+looked : (c : tie.After-diets-fit)
+    → let a = c .before .before .before .before .before .before .before .before .before .args in
+    dietsFit (a .n) (entryAt (a .entries .now) (a .marks)) ≡ c .diets-fit .result
+looked c =
+    let a = c .before .before .before .before .before .before .before .before .before .args in
+    ap (λ m. dietsFit m (entryAt (a .entries .now) (a .marks))) (sym (c .before .before .if4 .left))
+    ∙ sym (c .diets-fit .ensures)
+
 returns-6 : tie.Need-returns-6
 returns-6 c =
     let d = c .before .before in
     let b = d .before .before .before in
-    let a = b .before .before .before .before .before .args in
-    let l = d .before .if4 .left in
-    sym (by-diet _ _ _ _ _ (sized (b .before .before)) (marked b) (not-off _ (d .before .before .if3 .left)) l
-    (not-off _ (d .if5 .left))
-    (ap (λ m. dietsFit m (entryAt (a .entries .now) (a .marks))) (sym l) ∙ sym (c .before .diets-fit .ensures)
-    ∙ not-on _ (c .if6 .taken)))
+    sym (by-diet _ _ _ _ _ (sized (b .before .before)) (marked b) (not-off _ (d .before .before .if3 .left))
+    (d .before .if4 .left) (not-off _ (d .if5 .left)) (looked (c .before) ∙ not-on _ (c .if6 .taken)))
 
 returns-7 : tie.Need-returns-7
 returns-7 c =
     let d = c .before .before in
     let b = d .before .before .before in
-    let a = b .before .before .before .before .before .args in
-    let l = d .before .if4 .left in
-    sym (by-none _ _ _ _ _ (sized (b .before .before)) (marked b) (not-off _ (d .before .before .if3 .left)) l
-    (not-off _ (d .if5 .left))
-    (ap (λ m. dietsFit m (entryAt (a .entries .now) (a .marks))) (sym l) ∙ sym (c .before .diets-fit .ensures)
-    ∙ not-off _ (c .if6 .left)))
+    sym (by-none _ _ _ _ _ (sized (b .before .before)) (marked b) (not-off _ (d .before .before .if3 .left))
+    (d .before .if4 .left) (not-off _ (d .if5 .left)) (looked (c .before) ∙ not-off _ (c .if6 .left)))
 
 pub first-refusal-spec : {M : Type 1} → statement M
 first-refusal-spec = tie.close (tie.spec (λ c κs. search needs) returns

@@ -1,4 +1,5 @@
--- A bench that refuses all bytes but records of kind 5 refuses every event but a crash: each event has its bytes.
+-- A bench that refuses all bytes but records of kind 5 refuses every event but a crash: each event whose value fits has
+-- its bytes, and one start that fits is enough to see that starts are refused.
 use mathlib.Core.Path.{_≡_, refl, _∙_}
 use mathlib.Core.Logic.{_≢_}
 use mathlib.Core.List.{List}

@@ -109,15 +109,13 @@ fn known(n: u8, t: u8, kind: u8, a: u8, b: u8, r: u8, v: u32) -> Decoded
     requires { ⌜ oneTo 6 kind ≡ true ⌝ }
     ensures { λ res. ⌜ res ≡ checkDiet (partsOf n t kind a b r v) ⌝ }
 {
-    if fields_ok(n, t, kind, a, b, r, v) {
-        if diet_ok(kind, v) {
-            Decoded::Got(event(kind, from_zero(a), from_zero(b), r, v))
-        } else {
-            Decoded::Refused(Refusal { number: 15 })
-        }
-    } else {
-        Decoded::Refused(Refusal { number: 5 })
+    if !fields_ok(n, t, kind, a, b, r, v) {
+        return Decoded::Refused(Refusal { number: 5 });
     }
+    if !diet_ok(kind, v) {
+        return Decoded::Refused(Refusal { number: 15 });
+    }
+    Decoded::Got(event(kind, from_zero(a), from_zero(b), r, v))
 }
 
 // By kind first, so that the compiler makes of each kind its own few tests.

@@ -3,22 +3,27 @@
 use mathlib.Core.Path.{_≡_, refl, sym, ap, ap₂, _∙_}
 use mathlib.Core.Logic.{_⊎_, inl, inr, ⊎-elim}
 use mathlib.Core.Bool.{Bool, true, false, not}
+use mathlib.Core.List.{List}
 use Prim.Native.Nat.{ℕ, zero, suc, _+_, _-_, _^_, _≤_, _<_}
 use native.Mathlib.Omega.{arith}
-use lib.ListN.{length, getD, replicate, length-set}
-use lib.Seq.{getD-set-same}
-use Rattle.sets.specs.EachLaws.{length-each, getD-each}
+use lib.ListN.{length, getD, set, replicate, length-set}
+use lib.Seq.{getD-set-same, getD-set-other}
+use Rattle.sets.specs.EachLaws.{length-each, getD-each, each-getD, each-cong}
 use Rattle.sets.specs.EveryLaws.{every-on, every-mk, every-not}
-use Rattle.sets.specs.Laws.{has-empty, has-insert, has-union, has-difference, union-lt}
-use Rattle.sets.specs.Set.{has}
+use Rattle.sets.specs.Laws.{has-empty, has-insert, has-union, has-intersection, has-difference, has-all, union-lt}
+use Rattle.sets.specs.Laws.{has-remove, intersection-lt, all-lt, set-ext}
+use Rattle.sets.specs.Set.{has, removeOf, unionOf, intersectionOf, differenceOf, allOf}
 use Rattle.sets.specs.TruthLaws as truth
-use Rattle.sets.specs.Truth.{_&&_, _||_, same, choose}
+use Rattle.sets.specs.Lists.{each, every}
+use Rattle.sets.specs.Truth.{_&&_, _||_, same, below, choose}
 use Rattle.sets.specs.TruthLaws.{Is, on, off, is, clash, both-ways, choose-on}
-use Rattle.sets.specs.TruthLaws.{choose-off, or-off-r, or-mk-l, or-mk-r, and-l, and-r, and-mk, eq-or}
+use Rattle.sets.specs.TruthLaws.{choose-off, or-off-r, or-mk-l, or-mk-r, and-l, and-r, and-mk, and-on-l, eq-or}
+use Rattle.sets.specs.TruthLaws.{and-on-r, and-off-r, off-by, below-on, below-mk}
 use Rattle.global_data.specs.declared.Entry.{Entry}
 use Rattle.global_data.specs.declared.Entry.the-variants.{Absent, Value}
 use Rattle.global_data.specs.GlobalData.{valueIn, entry, entryOf, sameEntry, nothingOf, oneOf}
 use Rattle.global_data.specs.GlobalData.{filledWord, fillOf, fillFrom, sameTo, allSame}
+use Rattle.global_data.specs.WordLaws.{value-word}
 use Rattle.global_data.specs.declared.GlobalData.{GlobalData}
 
 -- ---- entries
@@ -130,6 +135,40 @@ entry-fill g row k h =
     table true false x y = refl
     table false true x y = refl
     table false false x y = refl
+
+-- ---- the words as the code fills them
+-- the words of l, but those of the members of m the row's
+abbrev pub wordsFrom : ℕ → List ℕ → List ℕ → List ℕ
+wordsFrom m row l = each 16 (λ k. choose (has m k) (getD row k 0) (getD l k 0))
+
+pub fill-words : (g row : GlobalData)
+    → record {
+      present = unionOf (g .present) (row .present);
+      values = wordsFrom (differenceOf (row .present) (g .present)) (row .values) (g .values);
+    } ≡ fillOf g row
+unfolding fillOf filledWord
+fill-words g row = refl
+
+-- a member's word is taken, and the others are left
+pub words-more : (m : ℕ) (row l : List ℕ) (i : ℕ) → length l ≡ 16 → i < 16 → has m i ≡ true
+    → wordsFrom (removeOf m i) row (set l i (getD row i 0)) ≡ wordsFrom m row l
+words-more m row l i e b t = each-cong 16 _ _ (λ k h. go k (eq-or k i))
+  where
+    go : (k : ℕ) → (k ≡ i) ⊎ (k ≡ i → ⊥)
+        → choose (has (removeOf m i) k) (getD row k 0) (getD (set l i (getD row i 0)) k 0)
+        ≡ choose (has m k) (getD row k 0) (getD l k 0)
+    go k (inl p) =
+        choose-off _ _ _ (has-remove m i k ∙ and-off-r _ _ (rw (truth.same-mk k i p)))
+        ∙ rw p (getD-set-same l i (getD row i 0) 0 (omega arith) ∙ sym (choose-on _ _ _ t))
+    go k (inr p) =
+        rw (
+          has-remove m i k ∙ and-on-r _ _ (rw (truth.same-off k i p)),
+          getD-set-other l i k (getD row i 0) 0 p,
+        )
+
+-- none is left
+pub words-none : (row l : List ℕ) → length l ≡ 16 → wordsFrom 0 row l ≡ l
+words-none row l e = sym (each-getD 16 _ 0 l e (λ k b. sym (choose-off _ _ _ (has-empty k))))
 
 -- ---- filling from the rows of the members
 module _ (m : ℕ) (rows : ℕ → GlobalData) (g : GlobalData) where
@@ -345,6 +384,69 @@ pub sameTo-sym : (n : ℕ) (g h : GlobalData) → sameTo n g h ≡ sameTo n h g
 sameTo-sym n g h =
     both-ways (sameTo n g h) (sameTo n h g) (λ e. same-mk n h g (λ k l. sym (same-on n g h e k l)))
     (λ e. same-mk n g h (λ k l. sym (same-on n h g e k l)))
+
+-- ---- the same by present marks and words, as the code compares
+-- the entries below n that are present
+abbrev pub marks : ℕ → GlobalData → ℕ
+marks n g = intersectionOf (allOf n) (g .present)
+
+-- where entry k is asked for, its words are the same
+abbrev pub wordsSame : ℕ → GlobalData → GlobalData → ℕ → Bool
+wordsSame m g h k = choose (has m k) (same (getD (g .values) k 0) (getD (h .values) k 0)) true
+
+-- the same entry is present in both or in neither
+same-present : (g h : GlobalData) (k : ℕ) → entryOf g k ≡ entryOf h k → has (g .present) k ≡ has (h .present) k
+same-present g h k e = both-ways _ _ (λ t. on-too g h e t) (λ t. on-too h g (sym e) t)
+  where
+    on-too : (g h : GlobalData) → entryOf g k ≡ entryOf h k → has (g .present) k ≡ true → has (h .present) k ≡ true
+    on-too g h e t = value-present h k _ _ (sym e ∙ entry-present g k t)
+
+has-marks : (n : ℕ) (g : GlobalData) (k : ℕ) → has (marks n g) k ≡ (below k n && has (g .present) k)
+has-marks n g k = has-intersection _ _ k ∙ ap (λ (b : Bool). b && has (g .present) k) (has-all n k)
+
+module _ (n : ℕ) (g h : GlobalData) where
+  pub same-marks : sameTo n g h ≡ true → marks n g ≡ marks n h
+  same-marks e =
+      set-ext n _ _ (intersection-lt n _ _ (all-lt n)) (intersection-lt n _ _ (all-lt n))
+      (λ k l.
+      has-marks n g k ∙ ap (λ (b : Bool). below k n && b) (same-present g h k (same-on n g h e k l))
+      ∙ sym (has-marks n h k))
+
+  pub same-unmarked : (marks n g ≡ marks n h → ⊥) → sameTo n g h ≡ false
+  same-unmarked f = off-by _ (λ e. f (same-marks e))
+
+  -- where the same entries are present, their words are left to compare
+  module _ (few : n ≤ 16) (m : marks n g ≡ marks n h) where
+    -- entry k below n is present in h where it is in g
+    there : (k : ℕ) → k < n → has (g .present) k ≡ has (h .present) k
+    there k l =
+        sym (has-marks n g k ∙ and-on-l _ _ (below-mk k n l)) ∙ ap (λ (x : ℕ). has x k) m ∙ has-marks n h k
+        ∙ and-on-l _ _ (below-mk k n l)
+
+    pub same-words-marked : sameTo n g h ≡ every 16 (wordsSame (marks n g) g h)
+    same-words-marked =
+        both-ways _ _ (λ e. every-mk 16 (wordsSame (marks n g) g h) (λ k b. words e k (is (has (marks n g) k))))
+        (λ e. same-mk n g h (λ k l. entries k l (every-on 16 (wordsSame (marks n g) g h) e k (omega arith))
+        (is (has (g .present) k))))
+      where
+        words : sameTo n g h ≡ true → (k : ℕ) → Is (has (marks n g) k) → wordsSame (marks n g) g h k ≡ true
+        words e k (off f) = choose-off _ _ true f
+        words e k (on t) =
+            let b = sym (has-marks n g k) ∙ t in
+            let l : k < n = below-on k n (and-l _ _ b) in
+            let u : has (g .present) k ≡ true = and-r _ _ b in
+            choose-on _ _ true t
+            ∙ truth.same-mk _ _ (value-word _ _ (sym (entry-present g k u) ∙ same-on n g h e k l
+            ∙ entry-present h k (sym (there k l) ∙ u)))
+
+        entries : (k : ℕ) → k < n → wordsSame (marks n g) g h k ≡ true → Is (has (g .present) k)
+            → entryOf g k ≡ entryOf h k
+        entries k l e (off f) = entry-absent g k f ∙ sym (entry-absent h k (sym (there k l) ∙ f))
+        entries k l e (on t) =
+            entry-present g k t
+            ∙ ap valueIn (truth.same-on _ _
+            (sym (choose-on _ _ true (has-marks n g k ∙ and-mk _ _ (below-mk k n l) t)) ∙ e))
+            ∙ sym (entry-present h k (sym (there k l) ∙ t))
 
 module _ (p n m : ℕ) (rows : ℕ → GlobalData) (g : GlobalData) where
   abbrev row-same : ℕ → Bool

@@ -1,3 +1,4 @@
 pub mod GlobalData
 pub mod Laws
+pub mod PassLaws
 pub mod WordLaws

@@ -1,12 +1,14 @@
 // The global data: an entry for each process, absent or a value. An entry is absent where its present
 // bit is clear, and 0 is a value.
 ghost use mathlib.Core.Path.{_≡_};
+ghost use mathlib.Core.Bool.{true};
 ghost use Prim.Native.Nat.{_<_, _≤_};
-ghost use Rattle.sets.specs.Truth.{choose};
+ghost use lib.ListN.{length};
+ghost use Rattle.sets.specs.Truth.{same, choose};
 ghost use Rattle.global_data.specs.declared.Entry.{Entry};
 ghost use Rattle.global_data.specs.GlobalData.{portionsOf, dietOf, valueIn, dietFits};
-ghost use Rattle.global_data.specs.GlobalData.{entry, sameEntry, nothingOf, oneOf};
-ghost use Rattle.global_data.specs.GlobalData.{fillOf, fillFrom, sameTo, allSame, rowsOf};
+ghost use Rattle.global_data.specs.GlobalData.{nothingOf, oneOf, sameTo};
+ghost use Rattle.global_data.specs.Laws.{wordsFrom};
 
 // An entry: document 01's blank, or a value: portions, and the diet portions among them.
 pub enum Entry {
@@ -79,91 +81,43 @@ impl GlobalData {
         }
     }
 
-    // Each absent entry takes that of the row.
-    pub fn fill(self, row: GlobalData) -> GlobalData
-        ensures { λ r. ⌜ r ≡ fillOf self row ⌝ }
-    {
-        let taken = sets::difference(row.present, self.present);
-        let mut w = self.values;
-        let mut k = 0;
-        while k < 16 {
-            w[k] = pick(sets::member(taken, k), row.values[k], self.values[k]);
-            k += 1;
-        }
-        GlobalData {
-            present: sets::union(self.present, row.present),
-            values: w,
-        }
-    }
-
-    // Whether each entry below n is the same in both.
+    // Whether each entry below n is the same in both: the same ones are present, and their words are the same.
     pub fn same(self, other: GlobalData, n: usize) -> bool
         requires { ⌜ n ≤ 16 ⌝ }
         ensures { λ r. ⌜ r ≡ sameTo n self other ⌝ }
     {
+        let all = sets::all(n);
+        let marks = sets::intersection(all, self.present);
+        if marks != sets::intersection(all, other.present) {
+            return false;
+        }
         let mut ok = true;
         let mut k = 0;
-        while k < n {
-            ok = same_entry(
-                sets::member(self.present, k),
-                self.values[k],
-                sets::member(other.present, k),
-                other.values[k],
-            )
-                & ok;
+        while k < 16 {
+            ok = same_where(sets::member(marks, k), self.values[k], other.values[k]) & ok;
             k += 1;
         }
         ok
     }
 }
 
-fn pick(b: bool, x: u32, y: u32) -> u32
-    ensures { λ r. ⌜ r ≡ choose b x y ⌝ }
+// Whether two words are the same, where that is asked. Words hold nothing but the two numbers, so that they are
+// compared as one.
+fn same_where(asked: bool, x: u32, y: u32) -> bool
+    ensures { λ r. ⌜ r ≡ choose asked (same x y) true ⌝ }
 {
-    if b { x } else { y }
+    if asked { x == y } else { true }
 }
 
-// Whether two entries, each given by whether it is present and its word, are the same. Words hold nothing but the two
-// numbers, so that they are compared as one.
-fn same_entry(a: bool, x: u32, b: bool, y: u32) -> bool
-    ensures { λ r. ⌜ r ≡ sameEntry (entry a x) (entry b y) ⌝ }
+// The words of the members become those of the row.
+pub fn take_words(values: &mut [u32; 16], row: [u32; 16], members: u16)
+    requires { ⌜ length (now values) ≡ 16 ⌝ }
+    ensures { λ r. ⌜ now (values .exit) ≡ wordsFrom members row (now (values .entry)) ⌝ }
 {
-    if a {
-        if b { x == y } else { false }
-    } else {
-        if b { false } else { true }
+    let mut left = members;
+    while left != 0 {
+        let k = sets::lowest(left);
+        values[k] = row[k];
+        left = sets::rest(left);
     }
-}
-
-// g, filled from the rows of the members, in rising order.
-pub fn fill_from(g: GlobalData, members: u16, rows: [GlobalData; 16]) -> GlobalData
-    ensures { λ r. ⌜ r ≡ fillFrom 16 members (rowsOf rows) g ⌝ }
-{
-    let mut f = g;
-    let mut p = 0;
-    while p < 16 {
-        if sets::member(members, p) {
-            let from = rows[p];
-            f = f.fill(from);
-        }
-        p += 1;
-    }
-    f
-}
-
-// Whether the row of each member is the same as g, in the entries below n.
-pub fn same_all(g: GlobalData, members: u16, rows: [GlobalData; 16], n: usize) -> bool
-    requires { ⌜ n ≤ 16 ⌝ }
-    ensures { λ r. ⌜ r ≡ allSame 16 n members (rowsOf rows) g ⌝ }
-{
-    let mut ok = true;
-    let mut q = 0;
-    while q < 16 {
-        if sets::member(members, q) {
-            let row = rows[q];
-            ok = row.same(g, n) & ok;
-        }
-        q += 1;
-    }
-    ok
 }

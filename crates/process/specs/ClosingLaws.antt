@@ -1,25 +1,53 @@
--- How a round ends: in round t + 1 by the last round, whatever the estimates are; in an earlier one as the test says.
--- The next round opens exactly where the process is then undecided. By the two tests, and by what a close leaves.
+-- How a round ends: in round t + 1 by the last round, whatever the estimates are; in an earlier one as the test says,
+-- which one pass over the estimates decides. The next round opens exactly where the process is then undecided. By the
+-- two tests, and by what a close leaves.
 use mathlib.Core.Path.{_≡_, ap}
-use mathlib.Core.Logic.{_≢_}
-use mathlib.Core.Bool.{false, not}
-use Prim.Native.Nat.{ℕ, _+_}
-use Rattle.sets.specs.Truth.{choose}
-use Rattle.sets.specs.TruthLaws.{Is, on, off, is, choose-on, choose-off, same-mk, same-off}
+use mathlib.Core.Bool.{Bool, false, not}
+use Prim.Native.Nat.{ℕ, _+_, _≤_}
+use Rattle.sets.specs.Truth.{_&&_, same, choose}
+use Rattle.sets.specs.TruthLaws.{Is, on, off, is, choose-on, same-mk}
 use Rattle.global_data.specs.declared.GlobalData.{GlobalData}
+use Rattle.global_data.specs.GlobalData.{allSame}
+use Rattle.global_data.specs.PassLaws.{one-pass}
 use Rattle.process.specs.declared.Process.{Process}
+use Rattle.process.specs.declared.Closing.{Closing}
 use Rattle.process.specs.declared.Closing.the-variants.{NextRound, Agreed, LastRound}
-use Rattle.process.specs.Steps.{hasDecided, filledOf, agreedOf, closingOf, opensNext, decidesOf, owedOf, closeOf}
+use Rattle.process.specs.Steps.{hasDecided, nextOf, peersOf, filledOf, agreedOf, closingOf, opensNext, decidesOf}
+use Rattle.process.specs.Steps.{owedOf, openRoundOf, advanceOf, decideOf, closeOf}
+use Rattle.process.specs.Fields.{withEstimate}
 use Rattle.process.specs.Laws.{close-on, close-off, decide-decided, advance-decided}
 
+-- the closing of p where `next` is its next set, and `alike` says whether no estimate of that set differs from its own
+unfoldable pub closingBy : ℕ → ℕ → Bool → Process → Closing
+closingBy t next alike p =
+    choose (same (p .round) (t + 1)) LastRound (choose (same (p .previous) next && alike) Agreed NextRound)
+
 module _ (n t a : ℕ) (rows : ℕ → GlobalData) (p : Process) where
+  -- request C-16: the test needs no filled estimate. The peers' estimates are compared with the old one.
+  pub agreed-once : n ≤ 16
+      → agreedOf n a rows p ≡ (same (p .previous) (nextOf a p) && allSame 16 n (peersOf a p) rows (p .estimate))
+  unfolding agreedOf filledOf
+  agreed-once few =
+      ap (λ (b : Bool). same (p .previous) (nextOf a p) && b) (one-pass n 16 (peersOf a p) rows (p .estimate) few)
+
+  pub closing-once : n ≤ 16
+      → closingOf n t a rows p ≡ closingBy t (nextOf a p) (allSame 16 n (peersOf a p) rows (p .estimate)) p
+  unfolding closingOf closingBy
+  closing-once few =
+      ap (λ (b : Bool). choose (same (p .round) (t + 1)) LastRound (choose b Agreed NextRound)) (agreed-once few)
+
+  -- the estimate after a close is the filled one
+  pub close-filled : withEstimate (filledOf a rows p) (closeOf n t a rows p) ≡ closeOf n t a rows p
+  unfolding decideOf advanceOf openRoundOf
+  close-filled = go (is (decidesOf n t a rows p))
+    where
+      go : Is (decidesOf n t a rows p) → withEstimate (filledOf a rows p) (closeOf n t a rows p) ≡ closeOf n t a rows p
+      go (on e) = rw (close-on n t a rows p e)
+      go (off e) = rw (close-off n t a rows p e)
+
   pub closing-last : p .round ≡ t + 1 → closingOf n t a rows p ≡ LastRound
   unfolding closingOf
   closing-last e = choose-on _ _ _ (same-mk _ _ e)
-
-  pub closing-early : p .round ≢ t + 1 → closingOf n t a rows p ≡ choose (agreedOf n a rows p) Agreed NextRound
-  unfolding closingOf
-  closing-early e = choose-off _ _ _ (same-off _ _ e)
 
   pub next-undecided : hasDecided p ≡ false
       → opensNext (closingOf n t a rows p) ≡ not (hasDecided (closeOf n t a rows p))

@@ -1,17 +1,17 @@
 // One process's own part in the protocol: what it holds, and its steps. A host with a real network can drive it.
 ghost use mathlib.Core.Path.{_≡_};
-ghost use Prim.Native.Nat.{_<_, _≤_};
-ghost use Rattle.global_data.specs.GlobalData.{rowsOf};
+ghost use Prim.Native.Nat.{ℕ, _<_, _≤_};
+ghost use lib.ListN.{length};
+ghost use Rattle.global_data.specs.GlobalData.{allSame};
+ghost use Rattle.process.specs.Fields.{withEstimate};
 ghost use Rattle.process.specs.Steps.{idleOf, hasDecided, takesPart, openRoundOf, startOf, keeps, receiveOf};
-ghost use Rattle.process.specs.Steps.{arrivedOf, dueOf, nextOf, peersOf, filledOf, agreedOf, closingOf};
-ghost use Rattle.process.specs.Steps.{opensNext, owedOf, advanceOf, decideOf, closeOf, adoptOf};
-ghost use Rattle.process.specs.Steps.{messageOf, sendOf, suspectOf};
+ghost use Rattle.process.specs.Steps.{arrivedOf, dueOf, nextOf, peersOf, closingOf, opensNext, owedOf};
+ghost use Rattle.process.specs.Steps.{advanceOf, decideOf, closeOf, adoptOf, messageOf, sendOf, suspectOf};
+ghost use Rattle.process.specs.ClosingLaws.{closingBy};
 ghost use Rattle.process.specs.Laws.{wordsWith};
 ghost use Rattle.sets.specs.Truth.{choose};
 ghost use Rattle.sets.specs.Set.{insertOf};
 use global_data::GlobalData;
-use global_data::fill_from;
-use global_data::same_all;
 
 // Document 01's terminal. Sets are bits, process i at bit i from 0.
 #[repr(C)]
@@ -99,8 +99,7 @@ fn words_with(words: [u16; 16], at: u16, y: usize) -> [u16; 16]
     ]
 }
 
-// The steps. `n` is how many processes there are, `a` the number of this one, from 0;
-// `rows` has what each process sent in this round.
+// The steps. `n` is how many processes there are, `a` the number of this one, from 0.
 impl Process {
     // It has not started.
     pub fn idle() -> Process
@@ -189,7 +188,8 @@ impl Process {
         ensures { λ r. ⌜ r ≡ arrivedOf a self ⌝ }
     {
         let k = (self.round - 1) as usize;
-        sets::insert(self.received[k], a)
+        let words = self.received;
+        sets::insert(words[k], a)
     }
 
     // Step 4: each member of the current set has arrived or is suspected.
@@ -202,7 +202,7 @@ impl Process {
     }
 
     // Document 01's after-set: the members whose estimate arrived, suspected or not.
-    fn next(self, a: usize) -> u16
+    pub fn next(self, a: usize) -> u16
         requires { ⌜ a < 16 ⌝ }
         requires { ⌜ (1 ≤ self .round) × (self .round ≤ 16) ⌝ }
         ensures { λ r. ⌜ r ≡ nextOf a self ⌝ }
@@ -210,89 +210,58 @@ impl Process {
         sets::intersection(self.current, self.arrived(a))
     }
 
-    // The others of the next set.
-    fn peers(self, a: usize) -> u16
-        requires { ⌜ a < 16 ⌝ }
-        requires { ⌜ (1 ≤ self .round) × (self .round ≤ 16) ⌝ }
-        ensures { λ r. ⌜ r ≡ peersOf a self ⌝ }
-    {
-        sets::remove(self.next(a), a)
-    }
-
-    // The estimate with its absent entries filled from the peers' rows.
-    fn filled(self, a: usize, rows: [GlobalData; 16]) -> GlobalData
-        requires { ⌜ a < 16 ⌝ }
-        requires { ⌜ (1 ≤ self .round) × (self .round ≤ 16) ⌝ }
-        ensures { λ r. ⌜ r ≡ filledOf a (rowsOf rows) self ⌝ }
+    // Its own old estimate. That it has sixteen words is known where the process is a parameter.
+    pub fn old_estimate(self) -> GlobalData
+        ensures { λ r. ⌜ (r ≡ self .estimate) × (length (r .values) ≡ 16) ⌝ }
     {
         let g = self.estimate;
-        fill_from(g, self.peers(a), rows)
+        g
     }
 
-    // Step 5, the test, where g is the filled estimate: its sets agree, and g equals each arrived
-    // estimate, its own old one included.
-    fn agreed(self, n: usize, a: usize, rows: [GlobalData; 16], g: GlobalData) -> bool
-        requires { ⌜ n ≤ 16 ⌝ }
-        requires { ⌜ a < 16 ⌝ }
-        requires { ⌜ (1 ≤ self .round) × (self .round ≤ 16) ⌝ }
-        requires { ⌜ g ≡ filledOf a (rowsOf rows) self ⌝ }
-        ensures { λ r. ⌜ r ≡ agreedOf n a (rowsOf rows) self ⌝ }
-    {
-        let next = self.next(a);
-        if self.previous != next {
-            return false;
-        }
-        let own = self.estimate;
-        if g.same(own, n) {
-            same_all(g, sets::remove(next, a), rows, n)
-        } else {
-            false
-        }
-    }
-
-    // How the round ends, where g is the filled estimate. The last round is asked for first.
-    fn ending(self, n: usize, t: usize, a: usize, rows: [GlobalData; 16], g: GlobalData) -> Closing
-        requires { ⌜ (n ≤ 16) × (t < 16) ⌝ }
-        requires { ⌜ a < 16 ⌝ }
-        requires { ⌜ (1 ≤ self .round) × (self .round ≤ 16) ⌝ }
-        requires { ⌜ g ≡ filledOf a (rowsOf rows) self ⌝ }
-        ensures { λ r. ⌜ r ≡ closingOf n t a (rowsOf rows) self ⌝ }
+    // How the round ends, where `next` is the next set and `alike` says whether no estimate of that set differs from
+    // its own old one. The last round is asked for first.
+    fn ending(self, t: usize, next: u16, alike: bool) -> Closing
+        requires { ⌜ t < 16 ⌝ }
+        ensures { λ r. ⌜ r ≡ closingBy t next alike self ⌝ }
     {
         if self.round as usize == t + 1 {
             return Closing::LastRound;
         }
-        if self.agreed(n, a, rows, g) {
+        if (self.previous == next) & alike {
             Closing::Agreed
         } else {
             Closing::NextRound
         }
     }
 
-    // Step 5 where it does not decide: the sets move on, and the next round opens with g, the filled estimate.
-    fn advance(mut self, a: usize, g: GlobalData) -> Process
+    // Step 5 where it does not decide, but for the estimate: the sets move on, and the next round opens.
+    fn advance(mut self, a: usize, next: u16) -> Process
         requires { ⌜ a < 16 ⌝ }
         requires { ⌜ (1 ≤ self .round) × (self .round ≤ 16) ⌝ }
-        ensures { λ r. ⌜ r ≡ advanceOf a g self ⌝ }
+        requires { ⌜ next ≡ nextOf a self ⌝ }
+        ensures { λ r. ⌜ r ≡ advanceOf a (self .estimate) self ⌝ }
     {
-        let next = self.next(a);
         self.previous = self.current;
         self.current = next;
-        self.estimate = g;
         self.open_round(a)
     }
 
-    // Steps 4 and 5: it closes its round. The filled estimate is worked out once.
-    pub fn close(self, n: usize, t: usize, a: usize, rows: [GlobalData; 16]) -> Closed
+    // Steps 4 and 5 but for the estimate, which is filled by one pass over the others' estimates (request C-16). The
+    // same pass finds whether none differs from the old one: on such estimates this is the close.
+    pub fn close(self, n: usize, t: usize, a: usize, next: u16, alike: bool) -> Closed
         requires { ⌜ (n ≤ 16) × (t < 16) ⌝ }
         requires { ⌜ a < 16 ⌝ }
         requires { ⌜ (1 ≤ self .round) × (self .round ≤ 16) ⌝ }
-        ensures { λ r. ⌜ (r .process ≡ closeOf n t a (rowsOf rows) self)
-            × (r .closing ≡ closingOf n t a (rowsOf rows) self) ⌝ }
+        requires { ⌜ next ≡ nextOf a self ⌝ }
+        ensures { λ r. ⌜ ((rows : ℕ → GlobalData)
+            → alike ≡ allSame 16 n (peersOf a self) rows (self .estimate)
+            → (r .process ≡ withEstimate (self .estimate) (closeOf n t a rows self))
+            × (r .closing ≡ closingOf n t a rows self)) ⌝ }
     {
-        let g = self.filled(a, rows);
-        let closing = self.ending(n, t, a, rows, g);
+        let g = self.estimate;
+        let closing = self.ending(t, next, alike);
         let process = if closing.opens_next() {
-            self.advance(a, g)
+            self.advance(a, next)
         } else {
             self.decide(g, self.owed(n, a))
         };

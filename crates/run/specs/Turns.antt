@@ -1,27 +1,27 @@
 -- One turn of run's loop, as its code takes it: what is known at the loop's head, what each way of a turn comes to,
 -- and each event's check and effect on the parts that it changes. A turn is one of the four laws of run;
 -- the rest is the definitions with their parts named.
-use mathlib.Core.Path.{_≡_, refl, sym, ap, ap₂, _∙_}
+use mathlib.Core.Path.{_≡_, refl, sym, ap, _∙_}
 use mathlib.Core.Logic.{_≢_}
-use mathlib.Core.List.{List, [], _∷_}
-use mathlib.Core.Bool.{true, false}
-use Prim.Native.Nat.{ℕ, zero, suc, _+_, _-_, _*_, _≤_, _<_}
-use native.Mathlib.Nat.{add-zero}
+use mathlib.Core.List.{List}
+use mathlib.Core.Bool.{Bool, true, false}
+use Prim.Native.Nat.{ℕ, _+_, _-_, _*_, _≤_, _<_}
 use native.Mathlib.Omega.{arith}
 use lib.ListN.{length, getD, set, take, drop, length-take, length-drop}
 use lib.Seq.{drop-drop}
-use Rattle.sets.specs.Lists.{each, every}
-use Rattle.sets.specs.EachLaws.{getD-each}
-use Rattle.sets.specs.Set.{has, insertOf, removeOf}
-use Rattle.sets.specs.Truth.{_&&_, choose, _||_}
+use Rattle.sets.specs.Set.{insertOf, removeOf}
+use Rattle.sets.specs.Truth.{choose, _||_}
 use Rattle.sets.specs.TruthLaws.{and-l, Is, on, off, is, clash, choose-on, choose-off, check-zero}
 use Rattle.global_data.specs.declared.GlobalData.{GlobalData}
-use Rattle.global_data.specs.GlobalData.{noData, fillOf, fillFrom, sameTo, allSame, rowsOf}
+use Rattle.global_data.specs.GlobalData.{noData, allSame}
+use Rattle.global_data.specs.PassLaws.{Passing, passing-done}
 use Rattle.process.specs.declared.Process.{Process}
 use Rattle.process.specs.declared.Closing.{Closing}
 use Rattle.process.specs.declared.Closing.the-variants.{None}
 use Rattle.process.specs.Laws.{decide-decided, open-round}
-use Rattle.process.specs.Steps.{hasDecided, noProcess, openRoundOf, startOf, peersOf, filledOf, agreedOf, closingOf}
+use Rattle.process.specs.Fields.{withEstimate}
+use Rattle.process.specs.ClosingLaws.{close-filled}
+use Rattle.process.specs.Steps.{hasDecided, noProcess, openRoundOf, startOf, nextOf, peersOf, filledOf, closingOf}
 use Rattle.process.specs.Steps.{decidesOf, advanceOf, closeOf, messageOf, sendOf, suspectOf, receiveOf, adoptOf}
 use Rattle.bench.specs.declared.Bench.{Bench}
 use Rattle.bench.specs.declared.Refusal.{Refusal}
@@ -202,45 +202,12 @@ message-low p h = go (is (hasDecided p))
     go (on e) = rw (choose-on (hasDecided p) 0 (p .round) e) (omega arith)
     go (off e) = rw (choose-off (hasDecided p) 0 (p .round) e) h
 
--- where the code looks: the row of round r + 1 of a, the row k places on from r,
--- and message r of a, the definition's m
+-- where the code looks: the row of round r + 1 of a, and message r of a, the definition's m
 pub slot-low : (a r : ℕ) → a < 16 → r < 16 → a * 16 + r < 256
 slot-low a r p q = omega arith
 
-pub row-low : (r k : ℕ) → r < 16 → k ≤ 240 → r + k < 256
-row-low r k p q = omega arith
-
 pub word-low : (a r m : ℕ) → a < 16 → r ≡ m → m ≤ 16 → a * 17 + r < 272
 word-low a r m p e q = omega arith
-
--- ---- a close looks at the rows of the sixteen processes alone
-module _ (f g : ℕ → GlobalData) (h : (k : ℕ) → k < 16 → f k ≡ g k) where
-  fill-rows : (p m : ℕ) (e : GlobalData) → p ≤ 16 → fillFrom p m f e ≡ fillFrom p m g e
-  unfolding fillFrom
-  fill-rows zero m e l = refl
-  fill-rows (suc p) m e l =
-      let i = fill-rows p m e (omega arith) in
-      ap₂ (choose (has m p)) (ap₂ fillOf i (h p (omega arith))) i
-
-  every-rows : (p n m : ℕ) (e : GlobalData) → p ≤ 16
-      → every p (λ q. choose (has m q) (sameTo n (f q) e) true)
-      ≡ every p (λ q. choose (has m q) (sameTo n (g q) e) true)
-  unfolding every
-  every-rows zero n m e l = refl
-  every-rows (suc p) n m e l =
-      ap₂ _&&_ (ap (λ x. choose (has m p) (sameTo n x e) true) (h p (omega arith))) (every-rows p n m e (omega arith))
-
-  pub closing-rows : (n t a : ℕ) (p : Process) → closingOf n t a f p ≡ closingOf n t a g p
-  unfolding closingOf agreedOf filledOf allSame
-  closing-rows n t a p =
-      simp (
-        fill-rows 16 (peersOf a p) (p .estimate) (omega arith),
-        every-rows 16 n (peersOf a p) (fillFrom 16 (peersOf a p) g (p .estimate)) (omega arith),
-      )
-
-  pub close-rows : (n t a : ℕ) (p : Process) → closeOf n t a f p ≡ closeOf n t a g p
-  unfolding closeOf decidesOf filledOf advanceOf
-  close-rows n t a p = simp (fill-rows 16 (peersOf a p) (p .estimate) (omega arith), closing-rows n t a p)
 
 -- a close that does not decide opens the next round, which is not past the last
 module _ (n t a : ℕ) (rows : ℕ → GlobalData) (p : Process) where
@@ -367,30 +334,9 @@ module _ (s : Bench) where
   unfolding effect arrives withProcess withTransit transitAt numberOf
   effect-adopt a b i m k p q e h w = rw (w, e, q, h)
 
--- the rows of round r + 1, as the code gathers them
-abbrev othersIn : List GlobalData → ℕ → List GlobalData
-othersIn sent r =
-    let row : ℕ → GlobalData = λ i. getD sent i noData in
-    row (r + 16) ∷ row (r + 32) ∷ row (r + 48) ∷ row (r + 64) ∷ row (r + 80) ∷ row (r + 96) ∷ row (r + 112)
-    ∷ row (r + 128)
-    ∷ row (r + 144) ∷ row (r + 160) ∷ row (r + 176) ∷ row (r + 192) ∷ row (r + 208) ∷ row (r + 224) ∷ row (r + 240)
-    ∷ []
-
-abbrev pub rowsIn : List GlobalData → ℕ → List GlobalData
-rowsIn sent r = getD sent r noData ∷ othersIn sent r
-
-rows-each : (sent : List GlobalData) (r : ℕ) → rowsIn sent r ≡ each 16 (λ k. getD sent (r + k * 16) noData)
-unfolding each
-rows-each sent r = ap (λ (i : ℕ). getD sent i noData ∷ othersIn sent r) (sym (add-zero r))
-
--- the rows that the code gathers are those of the round
-rows-gathered : (s : Bench) (a r : ℕ) → r ≡ processAt s a .round - 1 → (k : ℕ) → k < 16
-    → rowsOf (rowsIn (s .sent) r) k ≡ rowsAt s (processAt s a .round) k
-unfolding rowsAt sentAt
-rows-gathered s a r e k l =
-    ap (λ (rows : List GlobalData). getD rows k noData) (rows-each (s .sent) r)
-    ∙ getD-each 16 (λ k. getD (s .sent) (r + k * 16) noData) noData k l
-    ∙ ap (λ i. getD (s .sent) i noData) (omega (arith, e))
+-- the rows of round r + 1, where the code finds them
+abbrev pub rowsIn : List GlobalData → ℕ → ℕ → GlobalData
+rowsIn sent r y = getD sent (y * 16 + r) noData
 
 -- ---- the closing: of a close it is the new one, and any other event keeps the one before
 module _ (c : Closing) (s : Bench) where
@@ -414,33 +360,51 @@ module _ (c : Closing) (s : Bench) where
   unfolding closingAt
   kept-suspect a b = sym (last-none c)
 
-pub closing-new : (c x : Closing) (s : Bench) (a r : ℕ) → r ≡ processAt s a .round - 1
-    → x ≡ closingOf (s .n) (s .t) a (rowsOf (rowsIn (s .sent) r)) (processAt s a)
-    → x ≡ lastOf c (closingAt (Close a) s)
-unfolding closingAt
-closing-new c x s a r e h =
-    h ∙ closing-rows _ _ (rows-gathered s a r e) (s .n) (s .t) a (processAt s a)
-    ∙ sym (last-close c _ (close-some _ _ _ _ _))
+-- what a close of a comes to: q is the process then, x the code's closing
+pub record Closes (c x : Closing) (s : Bench) (a : ℕ) (q : Process) : Type 0 where
+  pub closing : x ≡ lastOf c (closingAt (Close a) s)
+  pub decides : hasDecided q ≡ true → withProcess s a q ≡ effect (Close a) s
+  pub opens : hasDecided q ≡ false → (i : ℕ) → i ≡ q .round - 1 → openedAt s a i q ≡ effect (Close a) s
+  pub round : hasDecided q ≡ false → s .t < 16 → processAt s a .round ≤ s .t + 1 → (1 ≤ q .round) × (q .round ≤ 16)
 
--- q is what the code makes of process a at its close
-module _ (s : Bench) (a r : ℕ) (q : Process) (e : r ≡ processAt s a .round - 1)
-    (h : q ≡ closeOf (s .n) (s .t) a (rowsOf (rowsIn (s .sent) r)) (processAt s a)) where
-  closed : q ≡ closeOf (s .n) (s .t) a (rowsAt s (processAt s a .round)) (processAt s a)
-  closed = h ∙ close-rows _ _ (rows-gathered s a r e) (s .n) (s .t) a (processAt s a)
+-- once its pass is made: `next` is the code's next set, and q what it makes of a but for the estimate
+module _ (c x : Closing) (s : Bench) (a r next : ℕ) (old g : GlobalData) (alike : Bool) (q : Process)
+    (e : r ≡ processAt s a .round - 1) (f : next ≡ nextOf a (processAt s a)) (o : old ≡ processAt s a .estimate)
+    (w : Passing (s .n) (removeOf next a) (rowsIn (s .sent) r) old 0 g alike)
+    (k : (rows : ℕ → GlobalData)
+    → alike ≡ allSame 16 (s .n) (peersOf a (processAt s a)) rows (processAt s a .estimate)
+    → (q ≡ withEstimate (processAt s a .estimate) (closeOf (s .n) (s .t) a rows (processAt s a)))
+    × (x ≡ closingOf (s .n) (s .t) a rows (processAt s a))) where
+  abbrev rows : ℕ → GlobalData
+  rows = rowsAt s (processAt s a .round)
 
-  pub effect-decides : hasDecided q ≡ true → withProcess s a q ≡ effect (Close a) s
-  unfolding effect closesAs
-  effect-decides d = rw (← closed) (sym (choose-on (hasDecided q) (withProcess s a q) (opensRound s a q) d))
+  abbrev after : Process
+  after = withEstimate g q
 
-  pub effect-opens : hasDecided q ≡ false → (i : ℕ) → i ≡ q .round - 1 → openedAt s a i q ≡ effect (Close a) s
-  unfolding effect closesAs
-  effect-opens d i j =
-      opened-at s a i q j ∙ rw (← closed) (sym (choose-off (hasDecided q) (withProcess s a q) (opensRound s a q) d))
+  -- what the pass gives, in the definitions' words
+  passed : (g ≡ filledOf a rows (processAt s a))
+      × (alike ≡ allSame 16 (s .n) (peersOf a (processAt s a)) rows (processAt s a .estimate))
+  unfolding filledOf peersOf rowsAt sentAt
+  passed =
+      let d = passing-done (s .n) (removeOf next a) (rowsIn (s .sent) r) old g alike w in
+      (rw (f, o, e) at (d .0), rw (f, o, e) at (d .1))
 
-  -- the round that it opens
-  pub opened-round : hasDecided q ≡ false → s .t < 16 → processAt s a .round ≤ s .t + 1
-      → (1 ≤ q .round) × (q .round ≤ 16)
-  opened-round d l m =
-      let o : (q .round ≡ processAt s a .round + 1) × (processAt s a .round ≢ s .t + 1) =
-      rw h (close-opens (s .n) (s .t) a (rowsOf (rowsIn (s .sent) r)) (processAt s a) (rw h at d)) in
-      omega (arith, o .1)
+  closed : after ≡ closeOf (s .n) (s .t) a rows (processAt s a)
+  closed = rw (k rows (passed .1) .0, passed .0) (close-filled (s .n) (s .t) a rows (processAt s a))
+
+  opened : hasDecided after ≡ false → (after .round ≡ processAt s a .round + 1) × (processAt s a .round ≢ s .t + 1)
+  opened d = rw closed (close-opens (s .n) (s .t) a rows (processAt s a) (rw closed at d))
+
+  pub closes : Closes c x s a after
+  unfolding effect closesAs closingAt
+  closes =
+      record {
+        closing = k rows (passed .1) .1 ∙ sym (last-close c _ (close-some _ _ _ _ _));
+        decides =
+            λ d. rw (← closed) (sym (choose-on (hasDecided after) (withProcess s a after) (opensRound s a after) d));
+        opens =
+            λ d i j.
+            opened-at s a i after j
+            ∙ rw (← closed) (sym (choose-off (hasDecided after) (withProcess s a after) (opensRound s a after) d));
+        round = λ d l m. omega (arith, opened d .0, opened d .1);
+      }

@@ -12,6 +12,7 @@ use checks::crash_check;
 use checks::message_check;
 use checks::start_check;
 use checks::suspect_check;
+use global_data::take_words;
 use process::Closing;
 use records::decode;
 use sets::set_within;
@@ -165,34 +166,35 @@ pub fn run_bytes(bench: Bench, schedule: &[u8], budget: u32) -> Ended
                         return turned_away(s, before, k, closing, from);
                     }
                     let r = round_index(p.round);
-                    let rows = [
-                        s.sent[r],
-                        s.sent[r + 16],
-                        s.sent[r + 32],
-                        s.sent[r + 48],
-                        s.sent[r + 64],
-                        s.sent[r + 80],
-                        s.sent[r + 96],
-                        s.sent[r + 112],
-                        s.sent[r + 128],
-                        s.sent[r + 144],
-                        s.sent[r + 160],
-                        s.sent[r + 176],
-                        s.sent[r + 192],
-                        s.sent[r + 208],
-                        s.sent[r + 224],
-                        s.sent[r + 240],
-                    ];
-                    let c = p.close(n, t, a, rows);
-                    let q = c.process;
+                    let next = p.next(a);
+                    // one pass over what the others of the next set sent: an absent entry takes theirs, and each is
+                    // compared with the old estimate
+                    let old = p.old_estimate();
+                    let mut g = old;
+                    let mut alike = true;
+                    let mut left = sets::remove(next, a);
+                    while left != 0 {
+                        let y = sets::lowest(left);
+                        left = sets::rest(left);
+                        let row = s.sent[y * 16 + r];
+                        let words = row.values;
+                        let taken = sets::difference(row.present, g.present);
+                        take_words(&mut g.values, words, taken);
+                        g.present = sets::union(g.present, row.present);
+                        if alike {
+                            alike = row.same(old, n);
+                        }
+                    }
+                    let c = p.close(n, t, a, next, alike);
+                    let mut q = c.process;
+                    q.estimate = g;
                     closing = c.closing;
                     s.processes[a] = q;
                     if q.has_decided() {
                         continue;
                     }
-                    let g = q.estimate;
-                    let next = round_index(q.round);
-                    s.sent[a * 16 + next] = g;
+                    let opened = round_index(q.round);
+                    s.sent[a * 16 + opened] = g;
                     continue;
                 }
                 Event::Crash { process: a } => {

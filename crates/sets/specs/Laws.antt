@@ -9,7 +9,7 @@ use native.Mathlib.Nat.{pow-suc, one-mul, div-self, mul-div-cancel, div-eq-of-lt
 use native.Mathlib.Omega.{arith}
 use lib.Arith.{lt-one, digits-div, digits-mod, bin-ind}
 use lib.Bits.{bitAnd, bitOr, bitXor, differ, and-step, or-step, xor-step, and-shr}
-use lib.Bits.{or-shr, xor-shr, and-le-l, and-le-r, or-lt, xor-lt, or-add-and}
+use lib.Bits.{or-shr, xor-shr, and-le-l, and-le-r, or-lt, xor-lt, or-add-and, xor-add-and}
 use lib.Count.{ones, ones-step, ones-cat, ones-ones, ones-le}
 use lib.Dec.{lit<}
 use lib.Pow.{pow-pos, pow-mono, pow-lt, pow-add, shr-shr, ones-split, ones-lt, high, shl-exact}
@@ -58,7 +58,7 @@ unfolding has bit same
 digit-bit m i =
     table (λ (x y : ℕ). x ≡ bit (same x 1)) refl refl refl refl (digit m i) 0 (omega arith) (omega arith)
 
-has-half : (m i : ℕ) → has (m / 2) i ≡ has m (suc i)
+pub has-half : (m i : ℕ) → has (m / 2) i ≡ has m (suc i)
 unfolding has
 has-half m i = ap (λ (x : ℕ). same (x % 2) 1) (shr-shr m 1 i ∙ ap (λ (k : ℕ). m / 2 ^ k) (omega arith))
 
@@ -294,14 +294,23 @@ only : (m i j : ℕ) → (x : Bool) → has m i ≡ x → Is (same j i) → (has
 only m i j x e (on t) = rw (same-on j i t, e)
 only m i j x e (off f) = and-off-r (has m j) (same j i) f ∙ sym (and-off-r x (same j i) f)
 
+meet-in : (m i : ℕ) → has m i ≡ true → bitAnd m (2 ^ i) ≡ 2 ^ i
+meet-in m i e =
+    meet-one m i (2 ^ i) (pow-lt (omega arith))
+    (λ j. only m i j true e (is (same j i)) ∙ and-on-l true (same j i) refl ∙ sym (has-one i j))
+
 -- a member put in again
 pub insert-same : (m i : ℕ) → has m i ≡ true → insertOf m i ≡ m
 unfolding insertOf
-insert-same m i e =
-    let z : bitAnd m (2 ^ i) ≡ 2 ^ i =
-    meet-one m i (2 ^ i) (pow-lt (omega arith))
-    (λ j. only m i j true e (is (same j i)) ∙ and-on-l true (same j i) refl ∙ sym (has-one i j)) in
-    omega (arith, or-add-and m (2 ^ i))
+insert-same m i e = omega (arith, or-add-and m (2 ^ i), meet-in m i e)
+
+-- a member taken out: its digit goes from the number
+pub remove-number : (m i : ℕ) → has m i ≡ true → removeOf m i + 2 ^ i ≡ m
+unfolding removeOf differenceOf
+remove-number m i e =
+    let z = meet-in m i e in
+    let w : bitAnd m (bitAnd m (2 ^ i)) ≡ 2 ^ i = ap (bitAnd m) z ∙ z in
+    omega (arith, xor-add-and m (bitAnd m (2 ^ i)), z, w)
 
 pub size-insert-same : (m i : ℕ) → has m i ≡ true → sizeOf (insertOf m i) ≡ sizeOf m
 size-insert-same m i e = ap sizeOf (insert-same m i e)

@@ -3,6 +3,7 @@ pub mod EachLaws
 pub mod EveryLaws
 pub mod Laws
 pub mod Lists
+pub mod LowestLaws
 pub mod Set
 pub mod SumLaws
 pub mod Tests

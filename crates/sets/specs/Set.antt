@@ -3,7 +3,7 @@
 use mathlib.Core.Bool.{Bool}
 use Prim.Native.Nat.{ℕ, _-_, _/_, _%_, _^_}
 use lib.Bits.{bitAnd, bitOr, bitXor}
-use lib.Count.{ones}
+use lib.Count.{ones, trailingZeros}
 use Rattle.sets.specs.Truth.{same, below}
 
 -- i is in the set m
@@ -32,6 +32,10 @@ allOf n = 2 ^ n - 1
 
 abbrev pub emptySet : ℕ
 emptySet = 0
+
+-- the lowest member: as many digits below it are 0
+unfoldable pub lowestOf : ℕ → ℕ
+lowestOf m = trailingZeros 16 m
 
 -- how many members
 unfoldable pub sizeOf : ℕ → ℕ

@@ -4,7 +4,7 @@ ghost use mathlib.Core.Path.{_≡_};
 ghost use Prim.Native.Nat.{_<_, _≤_};
 ghost use Rattle.sets.specs.Truth.{oneTo};
 ghost use Rattle.sets.specs.Set.{has, insertOf, removeOf, unionOf, intersectionOf};
-ghost use Rattle.sets.specs.Set.{differenceOf, allOf, emptySet, sizeOf, within};
+ghost use Rattle.sets.specs.Set.{differenceOf, allOf, emptySet, lowestOf, sizeOf, within};
 
 pub fn empty() -> u16
     ensures { λ r. ⌜ r ≡ emptySet ⌝ }
@@ -58,6 +58,22 @@ pub fn difference(a: u16, b: u16) -> u16
     ensures { λ r. ⌜ r ≡ differenceOf a b ⌝ }
 {
     a ^ (a & b)
+}
+
+// The lowest member.
+pub fn lowest(m: u16) -> usize
+    requires { ⌜ 0 < m ⌝ }
+    ensures { λ r. ⌜ (r ≡ lowestOf m) × (r < 16) ⌝ }
+{
+    u16::trailing_zeros(m) as usize
+}
+
+// All members but the lowest.
+pub fn rest(m: u16) -> u16
+    requires { ⌜ 0 < m ⌝ }
+    ensures { λ r. ⌜ r ≡ removeOf m (lowestOf m) ⌝ }
+{
+    m & (m - 1)
 }
 
 pub fn size(m: u16) -> u32

@@ -1,23 +1,28 @@
--- Two loops. The first tests the rows: what it has seen and what is left say together whether every row is sound.
+-- Three loops. The first tests the rows: what it has seen and what is left say together whether every row is sound.
 -- The second is the run: the bench is sound, and the run from here on gives what the whole run gives
 -- (`Running`). A turn is one law of `Turns`: each event's check and effect are those of the definitions on the parts
--- that the code reads and stores.
+-- that the code reads and stores. The third is the pass of a close over the rows of its round (`Passing`).
 use mathlib.Core.Path.{_≡_, refl, sym, _∙_}
-use mathlib.Core.Bool.{true}
+use mathlib.Core.Bool.{Bool, true}
 use mir.Syntax.{w64}
-use mir.Val.{Fits}
-use Prim.Native.Nat.{ℕ, _+_, _-_, _*_, _≤_, _<_}
+use Prim.Native.Nat.{_+_, _-_, _*_, _^_, _≤_, _<_}
 use native.Mathlib.Nat.{lt-trans}
 use native.Mathlib.Omega.{arith}
 use lib.ListN.{length, getD, length-map}
-use lib.Dec.{T, leb, lit<, lit≤}
+use lib.Dec.{lit<}
 use borrow.Author.Needs.{needs, fits-under, scaled-fits}
-use Rattle.sets.specs.TruthLaws.{not-on, not-off}
-use Rattle.global_data.specs.GlobalData.{noData, rowsOf}
+use Rattle.sets.specs.Set.{removeOf}
+use Rattle.sets.specs.LowestLaws.{rest-less}
+use Rattle.sets.specs.Truth.{_&&_}
+use Rattle.sets.specs.TruthLaws.{not-on, not-off, and-on-l, and-off-l}
+use Rattle.global_data.specs.GlobalData.{noData, sameTo}
+use Rattle.global_data.specs.Laws.{fill-words}
+use Rattle.global_data.specs.PassLaws.{Passing, passing-new, passing-more}
 use Rattle.global_data.proofs.GlobalData as row
-use Rattle.process.specs.Steps.{noProcess, closeOf}
+use Rattle.process.specs.Fields.{withEstimate}
+use Rattle.process.specs.Steps.{noProcess}
 use Rattle.bench.specs.declared.Event.{Event}
-use Rattle.bench.specs.declared.Event.the-variants.{Arrive, Close}
+use Rattle.bench.specs.declared.Event.the-variants.{Arrive}
 use Rattle.bench.specs.declared.Decoded.{Decoded}
 use Rattle.bench.specs.declared.Decoded.the-variants.{Got}
 use Rattle.bench.specs.State.{processAt, transitAt, withProcess}
@@ -26,16 +31,15 @@ use Rattle.bench.specs.EveryInLaws.{Tested, tested-none, tested-more, tested-al
 use Rattle.bench.specs.SoundLaws.{soundParts, parts-small, sound-off, sound-rows, sound-on}
 use Rattle.bench.specs.RecordLaws.{messageIn}
 use Rattle.bench.specs.Refuse.{refuses}
-use Rattle.bench.specs.Closings.{closingAt, lastOf}
 use Rattle.bench.specs.Calls.{endedOf}
 use Rattle.bench.specs.RunLaws.{run-damaged}
 use Rattle.run.specs.Turns.{Running, running-new, Turn, ends-empty, ends-spent, ends-short, ends-unread}
 use Rattle.run.specs.Turns.{ends-by, goes, Low, turn-sizes, turn-round, turn-last, turn-less, turn-low}
-use Rattle.run.specs.Turns.{slot-low, row-low, word-low, number-low, message-low, start-round, close-started}
+use Rattle.run.specs.Turns.{slot-low, word-low, number-low, message-low, start-round, close-started}
 use Rattle.run.specs.Turns.{refuses-start, refuses-send, refuses-arrive, refuses-close, refuses-crash}
 use Rattle.run.specs.Turns.{refuses-suspect, effect-start, effect-crash, effect-suspect, effect-send}
-use Rattle.run.specs.Turns.{effect-receive, effect-adopt, effect-decides, effect-opens, rowsIn, opened-round}
-use Rattle.run.specs.Turns.{kept-start, kept-send, kept-arrive, kept-crash, kept-suspect, closing-new}
+use Rattle.run.specs.Turns.{effect-receive, effect-adopt, rowsIn, Closes, closes}
+use Rattle.run.specs.Turns.{kept-start, kept-send, kept-arrive, kept-crash, kept-suspect}
 use Rattle.run.proofs.run_bytes.Statement.{statement}
 use Rattle.run.proofs.run_bytes.Tie as tie
 
@@ -45,6 +49,14 @@ Inv-loop schedule budget s rows₀ k₀ rows k = (k ≤ length (s .sent)) × Tes
 abbrev μ-loop : tie.MeasureT-loop
 μ-loop schedule budget s rows₀ k₀ rows k = length (s .sent) - k
 
+abbrev Inv-loop3 : tie.InvT-loop3
+Inv-loop3 schedule budget s rows k at accepted from before n t crashed a p k′ r next old g₀ alike₀ left₀ g alike left =
+    (left < 2 ^ 16) × Passing n (removeOf next a) (rowsIn (s .sent) r) old left g alike
+
+abbrev μ-loop3 : tie.MeasureT-loop3
+μ-loop3 schedule budget s rows k at accepted from before n t crashed a p k′ r next old g₀ alike₀ left₀ g alike left =
+    left
+
 abbrev Inv-loop2 : tie.InvT-loop2
 Inv-loop2 schedule budget s₀ rows k at₀ accepted₀ closing₀ s at accepted closing =
     Running budget schedule s₀ s at accepted closing
@@ -53,14 +65,14 @@ abbrev μ-loop2 : tie.MeasureT-loop2
 μ-loop2 schedule budget s₀ rows k at₀ accepted₀ closing₀ s at accepted closing = length schedule - at
 
 -- ---- a turn, once its record is decoded to d
-abbrev TurnAt : tie.After-decode Inv-loop μ-loop Inv-loop2 μ-loop2 → Decoded → Type 0
+abbrev TurnAt : tie.After-decode Inv-loop μ-loop Inv-loop3 μ-loop3 Inv-loop2 μ-loop2 → Decoded → Type 0
 TurnAt c d =
     let m = c .before .before .before .before .before .loop2 in
     let a = c .before .before .before .before .before .before .before .before .before .before .before .before .before
     .before .args in
     Turn (a .budget) (a .schedule .now) (a .bench) (m .s) (m .at) (m .accepted) (m .closing) d
 
-turn : (c : tie.After-decode Inv-loop μ-loop Inv-loop2 μ-loop2) → TurnAt c (c .decode .result)
+turn : (c : tie.After-decode Inv-loop μ-loop Inv-loop3 μ-loop3 Inv-loop2 μ-loop2) → TurnAt c (c .decode .result)
 turn c =
     record {
       running = c .before .before .before .before .before .loop2 .inv;
@@ -70,78 +82,87 @@ turn c =
     }
 
 -- to the event e
-event : (c : tie.After-known-told2 Inv-loop μ-loop Inv-loop2 μ-loop2) (e : Event) → c .before .e .given .0 .0 ≡ e
-    → TurnAt (c .before .before .before) (Got e)
+event : (c : tie.After-known-told2 Inv-loop μ-loop Inv-loop3 μ-loop3 Inv-loop2 μ-loop2) (e : Event)
+    → c .before .e .given .0 .0 ≡ e → TurnAt (c .before .before .before) (Got e)
 event c e p = rw (c .before .e .given .1, p) at (turn (c .before .before .before))
 
 -- ---- indices in each arm: what its event names is low, and so is where the code looks
-low-start : (c : tie.After-known-told3 Inv-loop μ-loop Inv-loop2 μ-loop2) → c .before .e2 .given .0 .0 < 16
+low-start : (c : tie.After-known-told3 Inv-loop μ-loop Inv-loop3 μ-loop3 Inv-loop2 μ-loop2)
+    → c .before .e2 .given .0 .0 < 16
 unfolding Low
 low-start c = turn-low (event (c .before .before .before) _ (c .before .e2 .given .1)) _ refl
 
 -- a's row of the round that it opens
-start-slot : (c : tie.After-round-index Inv-loop μ-loop Inv-loop2 μ-loop2)
+start-slot : (c : tie.After-round-index Inv-loop μ-loop Inv-loop3 μ-loop3 Inv-loop2 μ-loop2)
     → c .before .before .before .before .before .before .before .e2 .given .0 .0 * 16 + c .round-index .result < 256
 start-slot c =
     slot-low _ _ (low-start (c .before .before .before .before .before .before)) (c .round-index .ensures .1)
 
-low-send : (c : tie.After-known-told4 Inv-loop μ-loop Inv-loop2 μ-loop2)
+low-send : (c : tie.After-known-told4 Inv-loop μ-loop Inv-loop3 μ-loop3 Inv-loop2 μ-loop2)
     → (c .before .e3 .given .0 .0 < 16) × (c .before .e3 .given .0 .1 .0 < 16)
 unfolding Low
 low-send c = turn-low (event (c .before .before .before) _ (c .before .e3 .given .1)) _ refl
 
 -- message r of a is at a * 17 + r
-send-index : (c : tie.After-message Inv-loop μ-loop Inv-loop2 μ-loop2)
+send-index : (c : tie.After-message Inv-loop μ-loop Inv-loop3 μ-loop3 Inv-loop2 μ-loop2)
     → c .before .before .before .before .before .e3 .given .0 .0 * 17 + c .message .result < 272
 send-index c =
     word-low _ _ _ (low-send (c .before .before .before .before) .0) (c .message .ensures)
     (message-low _ (turn-last (turn
     (c .before .before .before .before .before .before .before .before .before .before)) _))
 
-low-arrive : (c : tie.After-known-told5 Inv-loop μ-loop Inv-loop2 μ-loop2)
+low-arrive : (c : tie.After-known-told5 Inv-loop μ-loop Inv-loop3 μ-loop3 Inv-loop2 μ-loop2)
     → (c .before .e4 .given .0 .0 < 16) × (c .before .e4 .given .0 .1 .0 < 16) × messageIn 15
     (c .before .e4 .given .0 .1 .1 .0)
 unfolding Low
 low-arrive c = turn-low (event (c .before .before .before) _ (c .before .e4 .given .1)) _ refl
 
-arrive-index : (c : tie.After-number Inv-loop μ-loop Inv-loop2 μ-loop2)
+arrive-index : (c : tie.After-number Inv-loop μ-loop Inv-loop3 μ-loop3 Inv-loop2 μ-loop2)
     → c .before .before .e4 .given .0 .0 * 17 + c .number .result < 272
 arrive-index c =
     let h = low-arrive (c .before) in
     word-low _ _ _ (h .0) (c .number .ensures) (number-low _ (h .2))
 
-low-close : (c : tie.After-known-told7 Inv-loop μ-loop Inv-loop2 μ-loop2) → c .before .e5 .given .0 .0 < 16
+low-close : (c : tie.After-known-told7 Inv-loop μ-loop Inv-loop3 μ-loop3 Inv-loop2 μ-loop2)
+    → c .before .e5 .given .0 .0 < 16
 unfolding Low
 low-close c = turn-low (event (c .before .before .before) _ (c .before .e5 .given .1)) _ refl
 
--- the places of a close: from its eighth row, and from its end, back to where its round is known
-abbrev round8 : tie.After-t177 Inv-loop μ-loop Inv-loop2 μ-loop2
-    → tie.After-round-index2 Inv-loop μ-loop Inv-loop2 μ-loop2
-round8 c = c .before .before .before .before .before .before .before .before
+-- the places of a close: from its pass back to where its round is known, and from its end
+abbrev roundOf : tie.After-remove2 Inv-loop μ-loop Inv-loop3 μ-loop3 Inv-loop2 μ-loop2
+    → tie.After-round-index2 Inv-loop μ-loop Inv-loop3 μ-loop3 Inv-loop2 μ-loop2
+roundOf c = c .before .before .before
 
-abbrev gathered : tie.After-close Inv-loop μ-loop Inv-loop2 μ-loop2
-    → tie.After-round-index2 Inv-loop μ-loop Inv-loop2 μ-loop2
-gathered c = round8 (c .before .before .before .before .before .before .before .before .before)
+abbrev closedAt : tie.After-close Inv-loop μ-loop Inv-loop3 μ-loop3 Inv-loop2 μ-loop2
+    → tie.After-round-index2 Inv-loop μ-loop Inv-loop3 μ-loop3 Inv-loop2 μ-loop2
+closedAt c = roundOf (c .before .before .before)
 
-close-slot : (c : tie.After-round-index3 Inv-loop μ-loop Inv-loop2 μ-loop2)
-    → gathered
-    (c .before .before .before .before .before) .before .before .before .before .before .e5 .given .0 .0 * 16 + c
+-- the row of y, one of the others, in the round of the close
+row-slot : (c : tie.After-rest Inv-loop μ-loop Inv-loop3 μ-loop3 Inv-loop2 μ-loop2)
+    → c .before .lowest .result * 16 + roundOf (c .before .before .before .before) .round-index2 .result < 256
+row-slot c =
+    slot-low _ _ (c .before .lowest .ensures .1)
+    (roundOf (c .before .before .before .before) .round-index2 .ensures .1)
+
+close-slot : (c : tie.After-round-index3 Inv-loop μ-loop Inv-loop3 μ-loop3 Inv-loop2 μ-loop2)
+    → closedAt (c .before .before .before .before) .before .before .before .before .before .e5 .given .0 .0 * 16 + c
     .round-index3 .result < 256
 close-slot c =
-    slot-low _ _ (low-close (gathered (c .before .before .before .before .before) .before .before .before .before))
+    slot-low _ _ (low-close (closedAt (c .before .before .before .before) .before .before .before .before))
     (c .round-index3 .ensures .1)
 
-low-crash : (c : tie.After-known-told8 Inv-loop μ-loop Inv-loop2 μ-loop2) → c .before .e6 .given .0 .0 < 16
+low-crash : (c : tie.After-known-told8 Inv-loop μ-loop Inv-loop3 μ-loop3 Inv-loop2 μ-loop2)
+    → c .before .e6 .given .0 .0 < 16
 unfolding Low
 low-crash c = turn-low (event (c .before .before .before) _ (c .before .e6 .given .1)) _ refl
 
-low-suspect : (c : tie.After-known-told9 Inv-loop μ-loop Inv-loop2 μ-loop2)
+low-suspect : (c : tie.After-known-told9 Inv-loop μ-loop Inv-loop3 μ-loop3 Inv-loop2 μ-loop2)
     → (c .before .e7 .given .0 .0 < 16) × (c .before .e7 .given .0 .1 .0 < 16)
 unfolding Low
 low-suspect c = turn-low (event (c .before .before .before) _ (c .before .e7 .given .1)) _ refl
 
 -- the check of an arrival looks at that word
-number-check : (c : tie.After-message-check2 Inv-loop μ-loop Inv-loop2 μ-loop2)
+number-check : (c : tie.After-message-check2 Inv-loop μ-loop Inv-loop3 μ-loop3 Inv-loop2 μ-loop2)
     → c .message-check2 .result ≡ refuses (Arrive (c .before .before .before .before .e4 .given .0 .0)
     (c .before .before .before .before .e4 .given .0 .1 .0)
     (c .before .before .before .before .e4 .given .0 .1 .1 .0))
@@ -151,7 +172,7 @@ unfolding transitAt
 number-check c = rw (refuses-arrive _ _ _ _, ← c .before .before .number .ensures) (c .message-check2 .ensures)
 
 -- a close that is let through is in a round
-close-round : (c : tie.Else8 Inv-loop μ-loop Inv-loop2 μ-loop2)
+close-round : (c : tie.Else8 Inv-loop μ-loop Inv-loop3 μ-loop3 Inv-loop2 μ-loop2)
     → (1 ≤ getD
     (c .before .before .before .before .before .before .before .before .before .before .before .before .before .before
     .loop2 .s .processes) (c .before .before .before .before .e5 .given .0 .0) noProcess .round)
@@ -163,36 +184,15 @@ close-round c = (
   turn-last (turn (c .before .before .before .before .before .before .before .before .before)) _,
 )
 
--- what process a is after its close, on the rows that the code gathered
-closed : (c : tie.After-close Inv-loop μ-loop Inv-loop2 μ-loop2)
-    → let r = gathered c in
-    let s = r .before .before .before .before .before .before .before .before .before .before .before .before .before
-    .before .before .loop2 .s in
-    let a = r .before .before .before .before .before .e5 .given .0 .0 in
-    c .close .result .process ≡ closeOf (s .n) (s .t) a (rowsOf (rowsIn (s .sent) (r .round-index2 .result)))
-    (processAt s a)
-unfolding processAt
-closed c = c .close .ensures .0
-
--- and how its round ended
-closing-of : (c : tie.After-close Inv-loop μ-loop Inv-loop2 μ-loop2)
-    → let r = gathered c in
-    let m = r .before .before .before .before .before .before .before .before .before .before .before .before .before
-    .before .before .loop2 in
-    c .close .result .closing ≡ lastOf (m .closing)
-    (closingAt (Close (r .before .before .before .before .before .e5 .given .0 .0)) (m .s))
-unfolding processAt
-closing-of c = closing-new _ _ _ _ _ (gathered c .round-index2 .ensures .0) (c .close .ensures .1)
-
 -- ---- the bench is tested: all but the rows, then the rows one by one
-returns : tie.Need-returns Inv-loop μ-loop Inv-loop2 μ-loop2
+returns : tie.Need-returns Inv-loop μ-loop Inv-loop3 μ-loop3 Inv-loop2 μ-loop2
 returns c =
     let p = c .before .before .parts-sound in
     c .turned-away .ensures ∙ (sym (run-damaged _ _ _ (sound-off _ (sym (p .ensures) ∙ not-on (p .result)
     (c .before .if1 .taken)))))
 
 -- all but the rows is sound
-parts : (c : tie.Else1 Inv-loop μ-loop Inv-loop2 μ-loop2)
+parts : (c : tie.Else1 Inv-loop μ-loop Inv-loop3 μ-loop3 Inv-loop2 μ-loop2)
     → soundParts (c .before .before .before .before .before .args .bench .n)
     (c .before .before .before .before .before .args .bench .t)
     (c .before .before .before .before .before .args .bench .crashed)
@@ -201,19 +201,19 @@ parts : (c : tie.Else1 Inv-loop μ-loop Inv-loop2 μ-loop2)
 parts c = sym (c .before .parts-sound .ensures) ∙ not-off (c .before .parts-sound .result) (c .if1 .left)
 
 -- there are 256 rows
-sent-long : (c : tie.Else1 Inv-loop μ-loop Inv-loop2 μ-loop2)
+sent-long : (c : tie.Else1 Inv-loop μ-loop Inv-loop3 μ-loop3 Inv-loop2 μ-loop2)
     → length (c .before .before .before .before .before .args .bench .sent) ≡ 256
 sent-long c =
     let b = c .before .before .before .before .before in
     sym (length-map (b .args .bench .sent) (row.the-field .into)) ∙ b .good .0 .1 .1 .1 .1 .1 .1 .0 .1 .0 .1
 
-set-within-requires : tie.Need-set-within-requires Inv-loop μ-loop Inv-loop2 μ-loop2
+set-within-requires : tie.Need-set-within-requires Inv-loop μ-loop Inv-loop3 μ-loop3 Inv-loop2 μ-loop2
 set-within-requires c κs = parts-small _ _ _ _ _ (parts (c .before .before .before))
 
-loop-less : tie.Need-loop-less Inv-loop μ-loop Inv-loop2 μ-loop2
+loop-less : tie.Need-loop-less Inv-loop μ-loop Inv-loop3 μ-loop3 Inv-loop2 μ-loop2
 loop-less c = omega (arith, sent-long (c .before .before .before .before))
 
-loop-again : tie.Need-loop-again Inv-loop μ-loop Inv-loop2 μ-loop2
+loop-again : tie.Need-loop-again Inv-loop μ-loop Inv-loop3 μ-loop3 Inv-loop2 μ-loop2
 unfolding soundData
 loop-again c =
     let l = c .before .before .before .loop in
@@ -224,53 +224,53 @@ loop-again c =
     )
 
 -- every row was seen
-rows-seen : (c : tie.After-loop Inv-loop μ-loop Inv-loop2 μ-loop2)
+rows-seen : (c : tie.After-loop Inv-loop μ-loop Inv-loop3 μ-loop3 Inv-loop2 μ-loop2)
     → soundOf (c .before .before .before .before .before .before .before .args .bench) ≡ c .before .loop .rows
 rows-seen c =
     sound-rows _ (parts (c .before .before)) ∙ sym (tested-all (soundData _) _ (c .before .loop .k)
     (c .before .loop .rows) (omega (arith, sent-long (c .before .before))) (c .before .loop .inv .1))
 
-returns-2 : tie.Need-returns-2 Inv-loop μ-loop Inv-loop2 μ-loop2
+returns-2 : tie.Need-returns-2 Inv-loop μ-loop Inv-loop3 μ-loop3 Inv-loop2 μ-loop2
 returns-2 c =
     c .turned-away2 .ensures ∙ (sym (run-damaged _ _ _ (rows-seen (c .before .before) ∙ not-on _
     (c .before .if2 .taken))))
 
 -- ---- before the event is known
-loop2-holds : tie.Need-loop2-holds Inv-loop μ-loop Inv-loop2 μ-loop2
+loop2-holds : tie.Need-loop2-holds Inv-loop μ-loop Inv-loop3 μ-loop3 Inv-loop2 μ-loop2
 loop2-holds c = running-new _ _ _ (rows-seen (c .before) ∙ not-off _ (c .if2 .left))
 
-returns-3 : tie.Need-returns-3 Inv-loop μ-loop Inv-loop2 μ-loop2
+returns-3 : tie.Need-returns-3 Inv-loop μ-loop Inv-loop3 μ-loop3 Inv-loop2 μ-loop2
 unfolding endedOf
 returns-3 c = ends-spent _ _ _ _ _ _ _ (c .before .before .loop2 .inv) (c .before .loop2-test .taken) (c .if3 .taken)
 
-returns-4 : tie.Need-returns-4 Inv-loop μ-loop Inv-loop2 μ-loop2
+returns-4 : tie.Need-returns-4 Inv-loop μ-loop Inv-loop3 μ-loop3 Inv-loop2 μ-loop2
 returns-4 c =
     c .turned-away3 .ensures
     ∙ (ends-short _ _ _ _ _ _ _ (c .before .before .before .before .loop2 .inv)
     (c .before .before .before .loop2-test .taken) (c .before .before .if3 .left) (c .before .if4 .taken))
 
-cast-n : tie.Need-cast-n Inv-loop μ-loop Inv-loop2 μ-loop2
+cast-n : tie.Need-cast-n Inv-loop μ-loop Inv-loop3 μ-loop3 Inv-loop2 μ-loop2
 cast-n c = let b = sound-on _ (c .before .before .before .loop2 .inv .sound) in omega (arith, b .few, b .limit)
 
-cast-t : tie.Need-cast-t Inv-loop μ-loop Inv-loop2 μ-loop2
+cast-t : tie.Need-cast-t Inv-loop μ-loop Inv-loop3 μ-loop3 Inv-loop2 μ-loop2
 cast-t c = let b = sound-on _ (c .before .before .before .loop2 .inv .sound) in omega (arith, b .few, b .limit)
 
-returns-5 : tie.Need-returns-5 Inv-loop μ-loop Inv-loop2 μ-loop2
+returns-5 : tie.Need-returns-5 Inv-loop μ-loop Inv-loop3 μ-loop3 Inv-loop2 μ-loop2
 returns-5 c =
     c .turned-away4 .ensures ∙ (ends-unread _ _ _ _ _ _ _ _ (rw (c .before .before .r .given .1) at (turn
     (c .before .before .before .before))))
 
 -- ---- start
-start-requires : tie.Need-start-requires Inv-loop μ-loop Inv-loop2 μ-loop2
+start-requires : tie.Need-start-requires Inv-loop μ-loop Inv-loop3 μ-loop3 Inv-loop2 μ-loop2
 start-requires c κs =
     let w = turn (c .before .before .before .before .before .before .before .before .before) in
     (turn-sizes w .0, low-start (c .before .before .before))
 
-round-index-requires : tie.Need-round-index-requires Inv-loop μ-loop Inv-loop2 μ-loop2
+round-index-requires : tie.Need-round-index-requires Inv-loop μ-loop Inv-loop3 μ-loop3 Inv-loop2 μ-loop2
 round-index-requires c κs =
     start-round _ _ _ _ _ (c .before .start .ensures)
 
-loop2-again : tie.Need-loop2-again Inv-loop μ-loop Inv-loop2 μ-loop2
+loop2-again : tie.Need-loop2-again Inv-loop μ-loop Inv-loop3 μ-loop3 Inv-loop2 μ-loop2
 unfolding processAt
 loop2-again c =
     goes _ _ _ _ _ _ _ _ (event (c .before .before .before .before .before .before .before .before .before) _
@@ -281,7 +281,7 @@ loop2-again c =
     _ (kept-start _ _ _ _)
 
 -- ---- send
-loop2-again-2 : tie.Need-loop2-again-2 Inv-loop μ-loop Inv-loop2 μ-loop2
+loop2-again-2 : tie.Need-loop2-again-2 Inv-loop μ-loop Inv-loop3 μ-loop3 Inv-loop2 μ-loop2
 unfolding processAt transitAt
 loop2-again-2 c =
     goes _ _ _ _ _ _ _ _ (event (c .before .before .before .before .before .before .before .before .before .before) _
@@ -293,13 +293,13 @@ loop2-again-2 c =
     _ (kept-send _ _ _ _)
 
 -- ---- arrival
-receive-requires : tie.Need-receive-requires Inv-loop μ-loop Inv-loop2 μ-loop2
+receive-requires : tie.Need-receive-requires Inv-loop μ-loop Inv-loop3 μ-loop3 Inv-loop2 μ-loop2
 unfolding messageIn
 receive-requires c κs =
     let h = low-arrive (c .before .before .before .before .before .before .before .before .before) in
     (h .0, rw (c .before .m .given .1) at (h .2))
 
-loop2-again-3 : tie.Need-loop2-again-3 Inv-loop μ-loop Inv-loop2 μ-loop2
+loop2-again-3 : tie.Need-loop2-again-3 Inv-loop μ-loop Inv-loop3 μ-loop3 Inv-loop2 μ-loop2
 unfolding processAt transitAt
 loop2-again-3 c =
     goes _ _ _ _ _ _ _ _ (event
@@ -312,14 +312,14 @@ loop2-again-3 c =
     (c .before .before .before .before .before .remove .ensures))
     _ (kept-arrive _ _ _ _ _)
 
-adopt-requires : tie.Need-adopt-requires Inv-loop μ-loop Inv-loop2 μ-loop2
+adopt-requires : tie.Need-adopt-requires Inv-loop μ-loop Inv-loop3 μ-loop3 Inv-loop2 μ-loop2
 adopt-requires c κs =
     let h = low-arrive (c .before .before .before .before .before .before .before .before .before .before) in
     let w = turn (c .before .before .before .before .before .before .before .before .before .before
     .before .before .before .before .before .before) in
     (turn-sizes w .0, (h .1, h .0))
 
-loop2-again-4 : tie.Need-loop2-again-4 Inv-loop μ-loop Inv-loop2 μ-loop2
+loop2-again-4 : tie.Need-loop2-again-4 Inv-loop μ-loop Inv-loop3 μ-loop3 Inv-loop2 μ-loop2
 unfolding processAt transitAt
 loop2-again-4 c =
     goes _ _ _ _ _ _ _ _ (event
@@ -335,89 +335,146 @@ loop2-again-4 c =
     (c .before .before .before .before .before .before .remove .ensures))
     _ (kept-arrive _ _ _ _ _)
 
--- ---- close: the sixteen rows of the round are read, then the process and perhaps its next row stored
-close-check-requires : tie.Need-close-check-requires Inv-loop μ-loop Inv-loop2 μ-loop2
+-- ---- close: the rows of the round are passed over, then the process and perhaps its next row stored
+close-check-requires : tie.Need-close-check-requires Inv-loop μ-loop Inv-loop3 μ-loop3 Inv-loop2 μ-loop2
 close-check-requires c κs =
     (low-close (c .before), turn-last (turn (c .before .before .before .before .before .before .before)) _)
 
--- the row that lies k places on
-row-at : (c : tie.After-round-index2 Inv-loop μ-loop Inv-loop2 μ-loop2) (k : ℕ) → T (leb k 240)
-    → c .round-index2 .result + k < 256
-row-at c k t = row-low _ k (c .round-index2 .ensures .1) (lit≤ t)
+-- the sizes and indices of a close
+close-sizes : (c : tie.After-round-index2 Inv-loop μ-loop Inv-loop3 μ-loop3 Inv-loop2 μ-loop2)
+    → let s = c .before .before .before .before .before .before .before .before .before .before .before .before .before
+    .before .before .loop2 .s in
+    (s .n ≤ 16) × (s .t < 16)
+close-sizes c = turn-sizes (turn (c .before .before .before .before .before .before .before .before .before .before))
 
-row-fits : (c : tie.After-round-index2 Inv-loop μ-loop Inv-loop2 μ-loop2) (k : ℕ) → T (leb k 240)
-    → Fits w64 (c .round-index2 .result + k)
-row-fits c k t = fits-under w64 _ 256 (row-at c k t) tt
+-- ---- its pass
+loop3-holds : tie.Need-loop3-holds Inv-loop μ-loop Inv-loop3 μ-loop3 Inv-loop2 μ-loop2
+loop3-holds c = (
+  search needs,
+  rw (c .remove2 .ensures) (passing-new _ _ _ _ (c .before .old-estimate .ensures .1)),
+)
 
-row-bytes : (c : tie.After-round-index2 Inv-loop μ-loop Inv-loop2 μ-loop2) (k : ℕ) → T (leb k 240)
-    → Fits w64 ((c .round-index2 .result + k) * 68)
-row-bytes c k t = scaled-fits _ 256 _ (row-at c k t) (lit< tt)
+-- those left but the lowest are a smaller number
+pass-less : (c : tie.After-rest Inv-loop μ-loop Inv-loop3 μ-loop3 Inv-loop2 μ-loop2)
+    → c .rest .result < c .before .before .before .loop3 .left
+pass-less c =
+    let l = c .before .before .before .loop3 in
+    rw (c .rest .ensures) (rest-less (l .left) (search needs) (l .inv .0))
 
-close-requires : tie.Need-close-requires Inv-loop μ-loop Inv-loop2 μ-loop2
-close-requires c κs =
-    let r = round8 (c .before .before .before .before .before .before .before .before) in (
-      turn-sizes (turn (r .before .before .before .before .before .before .before .before .before .before)),
-      (low-close (r .before .before .before .before), close-round (r .before)),
+loop3-less : tie.Need-loop3-less Inv-loop μ-loop Inv-loop3 μ-loop3 Inv-loop2 μ-loop2
+loop3-less c = pass-less (c .before .before .before .before .before .before .before .before)
+
+-- a turn of the pass: the row of the lowest is filled in and, unless one before it differed, compared
+pass-more : (c : tie.After-union Inv-loop μ-loop Inv-loop3 μ-loop3 Inv-loop2 μ-loop2) (still : Bool)
+    → let t = c .before .before .before .before .before .before in
+    let l = t .before .before .before .loop3 in
+    let b = t .before .before .before .before in
+    let s = roundOf b .before .before .before .before .before .before .before .before .before .before .before .before
+    .before .before .before .loop2 .s in
+    let rows = rowsIn (s .sent) (roundOf b .round-index2 .result) in
+    still ≡ (l .alike && sameTo (s .n) (rows (t .before .lowest .result)) (b .before .old-estimate .result))
+    → (t .rest .result < 2 ^ 16)
+    × Passing (s .n)
+    (removeOf (b .before .before .next .result) (roundOf b .before .before .before .before .before .e5 .given .0 .0))
+    rows (b .before .old-estimate .result) (t .rest .result)
+    (record { present = c .union .result; values = c .before .take-words .last .0 }) still
+pass-more c still e =
+    let t = c .before .before .before .before .before .before in
+    let l = t .before .before .before .loop3 in (
+      lt-trans (pass-less t) (l .inv .0),
+      passing-more _ _ _ _ (l .left) (l .g) (l .alike) (search needs) (l .inv .0) (l .inv .1) _ _ _ _
+          (t .before .lowest .ensures .0) (t .rest .ensures)
+          (rw (c .union .ensures, c .before .take-words .ensures, c .before .before .before .difference .ensures)
+          (fill-words (l .g) _))
+          e,
     )
 
-loop2-again-5 : tie.Need-loop2-again-5 Inv-loop μ-loop Inv-loop2 μ-loop2
+loop3-again : tie.Need-loop3-again Inv-loop μ-loop Inv-loop3 μ-loop3 Inv-loop2 μ-loop2
+loop3-again c =
+    pass-more (c .before .before) _ (c .same .ensures ∙ sym (and-on-l _ _ (c .before .if9 .taken)))
+
+loop3-less-2 : tie.Need-loop3-less-2 Inv-loop μ-loop Inv-loop3 μ-loop3 Inv-loop2 μ-loop2
+loop3-less-2 c = pass-less (c .before .before .before .before .before .before .before)
+
+loop3-again-2 : tie.Need-loop3-again-2 Inv-loop μ-loop Inv-loop3 μ-loop3 Inv-loop2 μ-loop2
+loop3-again-2 c = pass-more (c .before) _ (c .if9 .left ∙ sym (and-off-l _ _ (c .if9 .left)))
+
+-- ---- its end
+close-requires : tie.Need-close-requires Inv-loop μ-loop Inv-loop3 μ-loop3 Inv-loop2 μ-loop2
+close-requires c κs =
+    let r = roundOf (c .before .before) in (
+      close-sizes r,
+      (
+        low-close (r .before .before .before .before),
+        (close-round (r .before), c .before .before .before .before .next .ensures),
+      ),
+    )
+
+-- what it comes to
+closed : (c : tie.After-close Inv-loop μ-loop Inv-loop3 μ-loop3 Inv-loop2 μ-loop2)
+    → let r = closedAt c in
+    let m = r .before .before .before .before .before .before .before .before .before .before .before .before .before
+    .before .before .loop2 in
+    Closes (m .closing) (c .close .result .closing) (m .s) (r .before .before .before .before .before .e5 .given .0 .0)
+    (withEstimate (c .before .before .loop3 .g) (c .close .result .process))
+unfolding processAt
+closed c =
+    let l = c .before .before .loop3 in
+    let b = c .before .before .before in
+    let z : l .left ≡ 0 = search needs in
+    closes _ _ _ _ _ _ _ _ _ _ (roundOf b .round-index2 .ensures .0) (b .before .before .next .ensures)
+    (b .before .old-estimate .ensures .0) (rw z at (l .inv .1)) (c .close .ensures)
+
+loop2-again-5 : tie.Need-loop2-again-5 Inv-loop μ-loop Inv-loop3 μ-loop3 Inv-loop2 μ-loop2
 unfolding withProcess processAt
 loop2-again-5 c =
-    goes _ _ _ _ _ _ _ _ (event (gathered
-    (c .before .before .before) .before .before .before .before .before .before .before) _ (gathered
-    (c .before .before .before) .before .before .before .before .before .e5 .given .1)) _
-    (gathered (c .before .before .before) .before .before .close-check .ensures ∙ sym (refuses-close _ _)) (gathered
-    (c .before .before .before) .before .if8 .left) _
-    (effect-decides _ _ _ _ (gathered (c .before .before .before) .round-index2 .ensures .0) (closed
-    (c .before .before .before)) (sym (c .before .has-decided .ensures) ∙ c .if9 .taken))
-    _ (closing-of (c .before .before .before))
+    let r = closedAt (c .before .before .before) in
+    goes _ _ _ _ _ _ _ _ (event (r .before .before .before .before .before .before .before) _
+    (r .before .before .before .before .before .e5 .given .1)) _
+    (r .before .before .close-check .ensures ∙ sym (refuses-close _ _)) (r .before .if8 .left) _
+    (closed (c .before .before .before) .decides (sym (c .before .has-decided .ensures) ∙ c .if10 .taken)) _
+    (closed (c .before .before .before) .closing)
 
-round-index-requires-3 : tie.Need-round-index-requires-3 Inv-loop μ-loop Inv-loop2 μ-loop2
+round-index-requires-3 : tie.Need-round-index-requires-3 Inv-loop μ-loop Inv-loop3 μ-loop3 Inv-loop2 μ-loop2
 unfolding processAt
 round-index-requires-3 c κs =
-    let w = turn (gathered (c .before .before .before .before) .before .before .before .before .before .before .before
+    let w = turn (closedAt (c .before .before .before) .before .before .before .before .before .before .before
     .before .before .before) in
-    opened-round (gathered
-    (c .before .before .before .before) .before .before .before .before .before .before .before .before .before .before
-    .before .before .before .before .before .loop2 .s) _ _ _ (gathered
-    (c .before .before .before .before) .round-index2 .ensures .0) (closed (c .before .before .before .before)) (sym
-    (c .before .before .has-decided .ensures) ∙ c .before .if9 .left) (turn-sizes w .1) (turn-round w _)
+    closed (c .before .before .before) .round (sym (c .before .has-decided .ensures) ∙ c .if10 .left)
+    (turn-sizes w .1) (turn-round w _)
 
-loop2-again-6 : tie.Need-loop2-again-6 Inv-loop μ-loop Inv-loop2 μ-loop2
+loop2-again-6 : tie.Need-loop2-again-6 Inv-loop μ-loop Inv-loop3 μ-loop3 Inv-loop2 μ-loop2
 unfolding processAt
 loop2-again-6 c =
-    goes _ _ _ _ _ _ _ _ (event (gathered
-    (c .before .before .before .before .before) .before .before .before .before .before .before .before) _ (gathered
-    (c .before .before .before .before .before) .before .before .before .before .before .e5 .given .1)) _
-    (gathered (c .before .before .before .before .before) .before .before .close-check .ensures
-    ∙ sym (refuses-close _ _))
-    (gathered (c .before .before .before .before .before) .before .if8 .left) _
-    (effect-opens _ _ _ _ (gathered (c .before .before .before .before .before) .round-index2 .ensures .0) (closed
-    (c .before .before .before .before .before)) (sym
-    (c .before .before .before .has-decided .ensures) ∙ c .before .before .if9 .left) _ (c .round-index3 .ensures .0))
-    _ (closing-of (c .before .before .before .before .before))
+    let r = closedAt (c .before .before .before .before) in
+    goes _ _ _ _ _ _ _ _ (event (r .before .before .before .before .before .before .before) _
+    (r .before .before .before .before .before .e5 .given .1)) _
+    (r .before .before .close-check .ensures ∙ sym (refuses-close _ _)) (r .before .if8 .left) _
+    (closed (c .before .before .before .before) .opens
+    (sym (c .before .before .has-decided .ensures) ∙ c .before .if10 .left) _ (c .round-index3 .ensures .0)) _
+    (closed (c .before .before .before .before) .closing)
 
 -- ---- crash
-loop2-again-7 : tie.Need-loop2-again-7 Inv-loop μ-loop Inv-loop2 μ-loop2
+loop2-again-7 : tie.Need-loop2-again-7 Inv-loop μ-loop Inv-loop3 μ-loop3 Inv-loop2 μ-loop2
 loop2-again-7 c =
     goes _ _ _ _ _ _ _ _ (event (c .before .before .before .before .before .before) _
     (c .before .before .before .before .e6 .given .1)) _
-    (c .before .before .crash-check .ensures ∙ sym (refuses-crash _ _)) (c .before .if10 .left) _
+    (c .before .before .crash-check .ensures ∙ sym (refuses-crash _ _)) (c .before .if11 .left) _
     (effect-crash _ _ _ (c .insert2 .ensures))
     _ (kept-crash _ _ _)
 
 -- ---- suspicion
-loop2-again-8 : tie.Need-loop2-again-8 Inv-loop μ-loop Inv-loop2 μ-loop2
+loop2-again-8 : tie.Need-loop2-again-8 Inv-loop μ-loop Inv-loop3 μ-loop3 Inv-loop2 μ-loop2
 unfolding withProcess processAt
 loop2-again-8 c =
     goes _ _ _ _ _ _ _ _ (event (c .before .before .before .before .before .before .before) _
     (c .before .before .before .before .before .e7 .given .1)) _
-    (c .before .before .suspect-check .ensures ∙ sym (refuses-suspect _ _ _)) (c .before .if11 .left) _
+    (c .before .before .suspect-check .ensures ∙ sym (refuses-suspect _ _ _)) (c .before .if12 .left) _
     (effect-suspect _ _ _ _ (c .suspect .ensures))
     _ (kept-suspect _ _ _ _)
 
 -- ---- no bytes are left
-returns-12 : tie.Need-returns-12 Inv-loop μ-loop Inv-loop2 μ-loop2
+returns-12 : tie.Need-returns-12 Inv-loop μ-loop Inv-loop3 μ-loop3 Inv-loop2 μ-loop2
 unfolding endedOf
 returns-12 c = ends-empty _ _ _ _ _ _ _ (c .before .loop2 .inv) (c .loop2-test .left)
 
@@ -425,7 +482,7 @@ pub run-bytes-spec : {M : Type 1} → statement M
 unfolding processAt
 run-bytes-spec =
     tie.close
-    (tie.spec Inv-loop μ-loop Inv-loop2 μ-loop2
+    (tie.spec Inv-loop μ-loop Inv-loop3 μ-loop3 Inv-loop2 μ-loop2
     -- the bench is tested
     (λ c κs. tt) (λ c κs. tt) returns (λ c. (omega arith, tested-none _ _)) (λ c. search needs) (λ c. search needs)
     set-within-requires (λ c. search needs) loop-less loop-again (λ c κs. tt) returns-2
@@ -497,60 +554,34 @@ run-bytes-spec =
     c .turned-away8 .ensures ∙ ends-by _ _ _ _ _ _ _ _ (event (arm .before .before) _ (arm .e5 .given .1)) _
     (c .before .before .close-check .ensures ∙ sym (refuses-close _ _)) (c .before .if8 .taken))
     (λ c κs. close-round c)
-    -- the sixteen rows
-    (λ c. scaled-fits _ 16 _ (c .round-index2 .ensures .1) (lit< tt))
-    (λ c. lt-trans (c .round-index2 .ensures .1) (lit< tt)) (λ c. row-fits (c .before) 16 tt)
-    (λ c. row-bytes (c .before) 16 tt) (λ c. row-at (c .before) 16 tt) (λ c. row-fits (c .before .before) 32 tt)
-    (λ c. row-bytes (c .before .before) 32 tt) (λ c. row-at (c .before .before) 32 tt)
-    (λ c. row-fits (c .before .before .before) 48 tt) (λ c. row-bytes (c .before .before .before) 48 tt)
-    (λ c. row-at (c .before .before .before) 48 tt) (λ c. row-fits (c .before .before .before .before) 64 tt)
-    (λ c. row-bytes (c .before .before .before .before) 64 tt) (λ c. row-at (c .before .before .before .before) 64 tt)
-    (λ c. row-fits (c .before .before .before .before .before) 80 tt)
-    (λ c. row-bytes (c .before .before .before .before .before) 80 tt)
-    (λ c. row-at (c .before .before .before .before .before) 80 tt)
-    (λ c. row-fits (c .before .before .before .before .before .before) 96 tt)
-    (λ c. row-bytes (c .before .before .before .before .before .before) 96 tt)
-    (λ c. row-at (c .before .before .before .before .before .before) 96 tt)
-    (λ c. row-fits (c .before .before .before .before .before .before .before) 112 tt)
-    (λ c. row-bytes (c .before .before .before .before .before .before .before) 112 tt)
-    (λ c. row-at (c .before .before .before .before .before .before .before) 112 tt) (λ c. row-fits (round8 c) 128 tt)
-    (λ c. row-bytes (round8 c) 128 tt) (λ c. row-at (round8 c) 128 tt) (λ c. row-fits (round8 (c .before)) 144 tt)
-    (λ c. row-bytes (round8 (c .before)) 144 tt) (λ c. row-at (round8 (c .before)) 144 tt)
-    (λ c. row-fits (round8 (c .before .before)) 160 tt) (λ c. row-bytes (round8 (c .before .before)) 160 tt)
-    (λ c. row-at (round8 (c .before .before)) 160 tt) (λ c. row-fits (round8 (c .before .before .before)) 176 tt)
-    (λ c. row-bytes (round8 (c .before .before .before)) 176 tt)
-    (λ c. row-at (round8 (c .before .before .before)) 176 tt)
-    (λ c. row-fits (round8 (c .before .before .before .before)) 192 tt)
-    (λ c. row-bytes (round8 (c .before .before .before .before)) 192 tt)
-    (λ c. row-at (round8 (c .before .before .before .before)) 192 tt)
-    (λ c. row-fits (round8 (c .before .before .before .before .before)) 208 tt)
-    (λ c. row-bytes (round8 (c .before .before .before .before .before)) 208 tt)
-    (λ c. row-at (round8 (c .before .before .before .before .before)) 208 tt)
-    (λ c. row-fits (round8 (c .before .before .before .before .before .before)) 224 tt)
-    (λ c. row-bytes (round8 (c .before .before .before .before .before .before)) 224 tt)
-    (λ c. row-at (round8 (c .before .before .before .before .before .before)) 224 tt)
-    (λ c. row-fits (round8 (c .before .before .before .before .before .before .before)) 240 tt)
-    (λ c. row-bytes (round8 (c .before .before .before .before .before .before .before)) 240 tt)
-    (λ c. row-at (round8 (c .before .before .before .before .before .before .before)) 240 tt)
+    -- its pass
+    (λ c κs. (low-close (c .before .before .before .before), close-round (c .before))) (λ c κs. tt)
+    (λ c κs. low-close (c .before .before .before .before .before .before)) loop3-holds (λ c κs. search needs)
+    (λ c κs. search needs) (λ c. scaled-fits _ 16 _ (c .before .lowest .ensures .1) (lit< tt))
+    (λ c. fits-under w64 _ 256 (row-slot c) tt) (λ c. scaled-fits _ 256 _ (row-slot c) (lit< tt)) (λ c. row-slot c)
+    (λ c κs. tt) (λ c κs. c .before .before .before .before .before .before .before .loop3 .inv .1 .long) (λ c κs. tt)
+    (λ c κs. close-sizes (roundOf
+    (c .before .before .before .before .before .before .before .before .before .before .before)) .0)
+    loop3-less loop3-again loop3-less-2 loop3-again-2
     -- the process, and its next row
     close-requires
-    (λ c. scaled-fits _ 16 _ (low-close (gathered (c .before) .before .before .before .before)) (lit< tt))
-    (λ c. low-close (gathered (c .before) .before .before .before .before)) (λ c κs. search needs)
-    (λ c. turn-less (turn (gathered
+    (λ c. scaled-fits _ 16 _ (low-close (closedAt (c .before) .before .before .before .before)) (lit< tt))
+    (λ c. low-close (closedAt (c .before) .before .before .before .before)) (λ c κs. tt)
+    (λ c. turn-less (turn (closedAt
     (c .before .before .before) .before .before .before .before .before .before .before .before .before .before)))
     loop2-again-5 round-index-requires-3
-    (λ c. scaled-fits _ 16 _ (low-close (gathered
-    (c .before .before .before .before .before) .before .before .before .before)) (lit< tt))
+    (λ c. scaled-fits _ 16 _ (low-close (closedAt
+    (c .before .before .before .before) .before .before .before .before)) (lit< tt))
     (λ c. fits-under w64 _ 256 (close-slot c) tt) (λ c. scaled-fits _ 256 _ (close-slot c) (lit< tt))
     (λ c. close-slot c)
-    (λ c. turn-less (turn (gathered
-    (c .before .before .before .before .before) .before .before .before .before .before .before .before .before .before
+    (λ c. turn-less (turn (closedAt
+    (c .before .before .before .before) .before .before .before .before .before .before .before .before .before
     .before))) loop2-again-6
     -- crash
     (λ c. c .match2 .keys5) (λ c κs. low-crash c) (λ c κs. tt)
     (λ c. let arm = c .before .before .before .before in
     c .turned-away9 .ensures ∙ ends-by _ _ _ _ _ _ _ _ (event (arm .before .before) _ (arm .e6 .given .1)) _
-    (c .before .before .crash-check .ensures ∙ sym (refuses-crash _ _)) (c .before .if10 .taken))
+    (c .before .before .crash-check .ensures ∙ sym (refuses-crash _ _)) (c .before .if11 .taken))
     (λ c κs. low-crash (c .before .before))
     (λ c. turn-less (turn (c .before .before .before .before .before .before .before .before .before))) loop2-again-7
     -- suspicion
@@ -558,7 +589,7 @@ run-bytes-spec =
     (λ c κs. low-suspect (c .before)) (λ c κs. tt)
     (λ c. let arm = c .before .before .before .before .before in
     c .turned-away10 .ensures ∙ ends-by _ _ _ _ _ _ _ _ (event (arm .before .before) _ (arm .e7 .given .1)) _
-    (c .before .before .suspect-check .ensures ∙ sym (refuses-suspect _ _ _)) (c .before .if11 .taken))
+    (c .before .before .suspect-check .ensures ∙ sym (refuses-suspect _ _ _)) (c .before .if12 .taken))
     (λ c κs. low-suspect (c .before .before .before) .1)
     (λ c. scaled-fits _ 16 _ (low-suspect (c .before .before .before .before) .0) (lit< tt))
     (λ c. low-suspect (c .before .before .before .before) .0)

@@ -214,8 +214,8 @@ impl Process {
     pub fn old_estimate(self) -> GlobalData
         ensures { λ r. ⌜ (r ≡ self .estimate) × (length (r .values) ≡ 16) ⌝ }
     {
-        let g = self.estimate;
-        g
+        let old = self.estimate;
+        old
     }
 
     // How the round ends, where `next` is the next set and `alike` says whether no estimate of that set differs from

@@ -4,11 +4,12 @@
 use mathlib.Core.Path.{_≡_, ap}
 use mathlib.Core.Bool.{Bool, false, not}
 use Prim.Native.Nat.{ℕ, _+_, _≤_}
+use Rattle.sets.specs.Set.{removeOf}
 use Rattle.sets.specs.Truth.{_&&_, same, choose}
 use Rattle.sets.specs.TruthLaws.{Is, on, off, is, choose-on, same-mk}
 use Rattle.global_data.specs.declared.GlobalData.{GlobalData}
 use Rattle.global_data.specs.GlobalData.{allSame}
-use Rattle.global_data.specs.PassLaws.{one-pass}
+use Rattle.global_data.specs.PassLaws.{one-pass, Passing, passing-done}
 use Rattle.process.specs.declared.Process.{Process}
 use Rattle.process.specs.declared.Closing.{Closing}
 use Rattle.process.specs.declared.Closing.the-variants.{NextRound, Agreed, LastRound}
@@ -37,13 +38,25 @@ module _ (n t a : ℕ) (rows : ℕ → GlobalData) (p : Process) where
       ap (λ (b : Bool). choose (same (p .round) (t + 1)) LastRound (choose b Agreed NextRound)) (agreed-once few)
 
   -- the estimate after a close is the filled one
-  pub close-filled : withEstimate (filledOf a rows p) (closeOf n t a rows p) ≡ closeOf n t a rows p
+  close-filled : withEstimate (filledOf a rows p) (closeOf n t a rows p) ≡ closeOf n t a rows p
   unfolding decideOf advanceOf openRoundOf
   close-filled = go (is (decidesOf n t a rows p))
     where
       go : Is (decidesOf n t a rows p) → withEstimate (filledOf a rows p) (closeOf n t a rows p) ≡ closeOf n t a rows p
       go (on e) = rw (close-on n t a rows p e)
       go (off e) = rw (close-off n t a rows p e)
+
+  -- once the pass over the peers' rows is made: q and x are what the code makes of it but for the estimate
+  module _ (next : ℕ) (g : GlobalData) (alike : Bool) (q : Process) (x : Closing) (f : next ≡ nextOf a p)
+      (w : Passing n (removeOf next a) rows (p .estimate) 0 g alike) where
+    passed : (g ≡ filledOf a rows p) × (alike ≡ allSame 16 n (peersOf a p) rows (p .estimate))
+    unfolding filledOf peersOf
+    passed = let d = passing-done n (removeOf next a) rows (p .estimate) g alike w in (rw f at (d .0), rw f at (d .1))
+
+    pub close-passed : ((rows : ℕ → GlobalData) → alike ≡ allSame 16 n (peersOf a p) rows (p .estimate)
+        → (q ≡ withEstimate (p .estimate) (closeOf n t a rows p)) × (x ≡ closingOf n t a rows p))
+        → (withEstimate g q ≡ closeOf n t a rows p) × (x ≡ closingOf n t a rows p)
+    close-passed k = let d = k rows (passed .1) in (rw (d .0, passed .0) close-filled, d .1)
 
   pub closing-last : p .round ≡ t + 1 → closingOf n t a rows p ≡ LastRound
   unfolding closingOf

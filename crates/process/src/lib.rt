@@ -2,7 +2,7 @@
 ghost use mathlib.Core.Path.{_≡_};
 ghost use Prim.Native.Nat.{ℕ, _<_, _≤_};
 ghost use lib.ListN.{length};
-ghost use Rattle.global_data.specs.GlobalData.{allSame};
+ghost use Rattle.global_data.specs.GlobalData.{allSame, rowsOf};
 ghost use Rattle.process.specs.Fields.{withEstimate};
 ghost use Rattle.process.specs.Steps.{idleOf, hasDecided, takesPart, openRoundOf, startOf, keeps, receiveOf};
 ghost use Rattle.process.specs.Steps.{arrivedOf, dueOf, nextOf, peersOf, closingOf, opensNext, owedOf};
@@ -12,6 +12,7 @@ ghost use Rattle.process.specs.Laws.{wordsWith};
 ghost use Rattle.sets.specs.Truth.{choose};
 ghost use Rattle.sets.specs.Set.{insertOf};
 use global_data::GlobalData;
+use global_data::take_words;
 
 // Document 01's terminal. Sets are bits, process i at bit i from 0.
 #[repr(C)]
@@ -248,7 +249,7 @@ impl Process {
 
     // Steps 4 and 5 but for the estimate, which is filled by one pass over the others' estimates (request C-16). The
     // same pass finds whether none differs from the old one: on such estimates this is the close.
-    pub fn close(self, n: usize, t: usize, a: usize, next: u16, alike: bool) -> Closed
+    pub fn finish(self, n: usize, t: usize, a: usize, next: u16, alike: bool) -> Closed
         requires { ⌜ (n ≤ 16) × (t < 16) ⌝ }
         requires { ⌜ a < 16 ⌝ }
         requires { ⌜ (1 ≤ self .round) × (self .round ≤ 16) ⌝ }
@@ -265,6 +266,39 @@ impl Process {
         } else {
             self.decide(g, self.owed(n, a))
         };
+        Closed { process, closing }
+    }
+
+    // Steps 4 and 5: it closes its round, where `rows` has what each process sent in it. run, which has the rows where
+    // they lie, makes the same pass there.
+    pub fn close(self, n: usize, t: usize, a: usize, rows: [GlobalData; 16]) -> Closed
+        requires { ⌜ (n ≤ 16) × (t < 16) ⌝ }
+        requires { ⌜ a < 16 ⌝ }
+        requires { ⌜ (1 ≤ self .round) × (self .round ≤ 16) ⌝ }
+        ensures { λ r. ⌜ (r .process ≡ closeOf n t a (rowsOf rows) self)
+            × (r .closing ≡ closingOf n t a (rowsOf rows) self) ⌝ }
+    {
+        let next = self.next(a);
+        let old = self.old_estimate();
+        let mut g = old;
+        let mut alike = true;
+        let mut left = sets::remove(next, a);
+        while left != 0 {
+            let y = sets::lowest(left);
+            left = sets::rest(left);
+            let row = rows[y];
+            let words = row.values;
+            let taken = sets::difference(row.present, g.present);
+            take_words(&mut g.values, words, taken);
+            g.present = sets::union(g.present, row.present);
+            if alike {
+                alike = row.same(old, n);
+            }
+        }
+        let c = self.finish(n, t, a, next, alike);
+        let mut process = c.process;
+        let closing = c.closing;
+        process.estimate = g;
         Closed { process, closing }
     }
 

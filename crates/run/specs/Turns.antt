@@ -14,13 +14,13 @@ use Rattle.sets.specs.Truth.{choose, _||_}
 use Rattle.sets.specs.TruthLaws.{and-l, Is, on, off, is, clash, choose-on, choose-off, check-zero}
 use Rattle.global_data.specs.declared.GlobalData.{GlobalData}
 use Rattle.global_data.specs.GlobalData.{noData, allSame}
-use Rattle.global_data.specs.PassLaws.{Passing, passing-done}
+use Rattle.global_data.specs.PassLaws.{Passing}
 use Rattle.process.specs.declared.Process.{Process}
 use Rattle.process.specs.declared.Closing.{Closing}
 use Rattle.process.specs.declared.Closing.the-variants.{None}
 use Rattle.process.specs.Laws.{decide-decided, open-round}
 use Rattle.process.specs.Fields.{withEstimate}
-use Rattle.process.specs.ClosingLaws.{close-filled}
+use Rattle.process.specs.ClosingLaws.{close-passed}
 use Rattle.process.specs.Steps.{hasDecided, noProcess, openRoundOf, startOf, nextOf, peersOf, filledOf, closingOf}
 use Rattle.process.specs.Steps.{decidesOf, advanceOf, closeOf, messageOf, sendOf, suspectOf, receiveOf, adoptOf}
 use Rattle.bench.specs.declared.Bench.{Bench}
@@ -368,9 +368,9 @@ pub record Closes (c x : Closing) (s : Bench) (a : ℕ) (q : Process) : Type 0 w
   pub round : hasDecided q ≡ false → s .t < 16 → processAt s a .round ≤ s .t + 1 → (1 ≤ q .round) × (q .round ≤ 16)
 
 -- once its pass is made: `next` is the code's next set, and q what it makes of a but for the estimate
-module _ (c x : Closing) (s : Bench) (a r next : ℕ) (old g : GlobalData) (alike : Bool) (q : Process)
-    (e : r ≡ processAt s a .round - 1) (f : next ≡ nextOf a (processAt s a)) (o : old ≡ processAt s a .estimate)
-    (w : Passing (s .n) (removeOf next a) (rowsIn (s .sent) r) old 0 g alike)
+module _ (c x : Closing) (s : Bench) (a r next : ℕ) (g : GlobalData) (alike : Bool) (q : Process)
+    (e : r ≡ processAt s a .round - 1) (f : next ≡ nextOf a (processAt s a))
+    (w : Passing (s .n) (removeOf next a) (rowsIn (s .sent) r) (processAt s a .estimate) 0 g alike)
     (k : (rows : ℕ → GlobalData)
     → alike ≡ allSame 16 (s .n) (peersOf a (processAt s a)) rows (processAt s a .estimate)
     → (q ≡ withEstimate (processAt s a .estimate) (closeOf (s .n) (s .t) a rows (processAt s a)))
@@ -381,30 +381,26 @@ module _ (c x : Closing) (s : Bench) (a r next : ℕ) (old g : GlobalData) (alik
   abbrev after : Process
   after = withEstimate g q
 
-  -- what the pass gives, in the definitions' words
-  passed : (g ≡ filledOf a rows (processAt s a))
-      × (alike ≡ allSame 16 (s .n) (peersOf a (processAt s a)) rows (processAt s a .estimate))
-  unfolding filledOf peersOf rowsAt sentAt
-  passed =
-      let d = passing-done (s .n) (removeOf next a) (rowsIn (s .sent) r) old g alike w in
-      (rw (f, o, e) at (d .0), rw (f, o, e) at (d .1))
-
-  closed : after ≡ closeOf (s .n) (s .t) a rows (processAt s a)
-  closed = rw (k rows (passed .1) .0, passed .0) (close-filled (s .n) (s .t) a rows (processAt s a))
+  -- the process and the closing are those of the definitions, on the rows of the round
+  closed : (after ≡ closeOf (s .n) (s .t) a rows (processAt s a))
+      × (x ≡ closingOf (s .n) (s .t) a rows (processAt s a))
+  unfolding rowsAt sentAt
+  closed = close-passed (s .n) (s .t) a rows (processAt s a) next g alike q x f (rw e at w) k
 
   opened : hasDecided after ≡ false → (after .round ≡ processAt s a .round + 1) × (processAt s a .round ≢ s .t + 1)
-  opened d = rw closed (close-opens (s .n) (s .t) a rows (processAt s a) (rw closed at d))
+  opened d = rw (closed .0) (close-opens (s .n) (s .t) a rows (processAt s a) (rw (closed .0) at d))
 
   pub closes : Closes c x s a after
   unfolding effect closesAs closingAt
   closes =
       record {
-        closing = k rows (passed .1) .1 ∙ sym (last-close c _ (close-some _ _ _ _ _));
+        closing = closed .1 ∙ sym (last-close c _ (close-some _ _ _ _ _));
         decides =
-            λ d. rw (← closed) (sym (choose-on (hasDecided after) (withProcess s a after) (opensRound s a after) d));
+            λ d.
+            rw (← closed .0) (sym (choose-on (hasDecided after) (withProcess s a after) (opensRound s a after) d));
         opens =
             λ d i j.
             opened-at s a i after j
-            ∙ rw (← closed) (sym (choose-off (hasDecided after) (withProcess s a after) (opensRound s a after) d));
+            ∙ rw (← closed .0) (sym (choose-off (hasDecided after) (withProcess s a after) (opensRound s a after) d));
         round = λ d l m. omega (arith, opened d .0, opened d .1);
       }

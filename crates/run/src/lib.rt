@@ -185,7 +185,7 @@ pub fn run_bytes(bench: Bench, schedule: &[u8], budget: u32) -> Ended
                             alike = row.same(old, n);
                         }
                     }
-                    let c = p.close(n, t, a, next, alike);
+                    let c = p.finish(n, t, a, next, alike);
                     let mut q = c.process;
                     q.estimate = g;
                     closing = c.closing;

@@ -133,7 +133,7 @@ abbrev roundOf : tie.After-remove2 Inv-loop μ-loop Inv-loop3 μ-loop3 Inv-loop2
     → tie.After-round-index2 Inv-loop μ-loop Inv-loop3 μ-loop3 Inv-loop2 μ-loop2
 roundOf c = c .before .before .before
 
-abbrev closedAt : tie.After-close Inv-loop μ-loop Inv-loop3 μ-loop3 Inv-loop2 μ-loop2
+abbrev closedAt : tie.After-finish Inv-loop μ-loop Inv-loop3 μ-loop3 Inv-loop2 μ-loop2
     → tie.After-round-index2 Inv-loop μ-loop Inv-loop3 μ-loop3 Inv-loop2 μ-loop2
 closedAt c = roundOf (c .before .before .before)
 
@@ -372,11 +372,12 @@ pass-more : (c : tie.After-union Inv-loop μ-loop Inv-loop3 μ-loop3 Inv-loop2 �
     let s = roundOf b .before .before .before .before .before .before .before .before .before .before .before .before
     .before .before .before .loop2 .s in
     let rows = rowsIn (s .sent) (roundOf b .round-index2 .result) in
-    still ≡ (l .alike && sameTo (s .n) (rows (t .before .lowest .result)) (b .before .old-estimate .result))
+    let old = b .before .old-estimate .result in
+    still ≡ (l .alike && sameTo (s .n) (rows (t .before .lowest .result)) old)
     → (t .rest .result < 2 ^ 16)
     × Passing (s .n)
     (removeOf (b .before .before .next .result) (roundOf b .before .before .before .before .before .e5 .given .0 .0))
-    rows (b .before .old-estimate .result) (t .rest .result)
+    rows old (t .rest .result)
     (record { present = c .union .result; values = c .before .take-words .last .0 }) still
 pass-more c still e =
     let t = c .before .before .before .before .before .before in
@@ -400,8 +401,8 @@ loop3-again-2 : tie.Need-loop3-again-2 Inv-loop μ-loop Inv-loop3 μ-loop3 Inv-l
 loop3-again-2 c = pass-more (c .before) _ (c .if9 .left ∙ sym (and-off-l _ _ (c .if9 .left)))
 
 -- ---- its end
-close-requires : tie.Need-close-requires Inv-loop μ-loop Inv-loop3 μ-loop3 Inv-loop2 μ-loop2
-close-requires c κs =
+finish-requires : tie.Need-finish-requires Inv-loop μ-loop Inv-loop3 μ-loop3 Inv-loop2 μ-loop2
+finish-requires c κs =
     let r = roundOf (c .before .before) in (
       close-sizes r,
       (
@@ -411,19 +412,20 @@ close-requires c κs =
     )
 
 -- what it comes to
-closed : (c : tie.After-close Inv-loop μ-loop Inv-loop3 μ-loop3 Inv-loop2 μ-loop2)
+closed : (c : tie.After-finish Inv-loop μ-loop Inv-loop3 μ-loop3 Inv-loop2 μ-loop2)
     → let r = closedAt c in
     let m = r .before .before .before .before .before .before .before .before .before .before .before .before .before
     .before .before .loop2 in
-    Closes (m .closing) (c .close .result .closing) (m .s) (r .before .before .before .before .before .e5 .given .0 .0)
-    (withEstimate (c .before .before .loop3 .g) (c .close .result .process))
+    Closes (m .closing) (c .finish .result .closing) (m .s)
+    (r .before .before .before .before .before .e5 .given .0 .0)
+    (withEstimate (c .before .before .loop3 .g) (c .finish .result .process))
 unfolding processAt
 closed c =
     let l = c .before .before .loop3 in
     let b = c .before .before .before in
     let z : l .left ≡ 0 = search needs in
-    closes _ _ _ _ _ _ _ _ _ _ (roundOf b .round-index2 .ensures .0) (b .before .before .next .ensures)
-    (b .before .old-estimate .ensures .0) (rw z at (l .inv .1)) (c .close .ensures)
+    closes _ _ _ _ _ _ _ _ _ (roundOf b .round-index2 .ensures .0) (b .before .before .next .ensures)
+    (rw (z, b .before .old-estimate .ensures .0) at (l .inv .1)) (c .finish .ensures)
 
 loop2-again-5 : tie.Need-loop2-again-5 Inv-loop μ-loop Inv-loop3 μ-loop3 Inv-loop2 μ-loop2
 unfolding withProcess processAt
@@ -564,7 +566,7 @@ run-bytes-spec =
     (c .before .before .before .before .before .before .before .before .before .before .before)) .0)
     loop3-less loop3-again loop3-less-2 loop3-again-2
     -- the process, and its next row
-    close-requires
+    finish-requires
     (λ c. scaled-fits _ 16 _ (low-close (closedAt (c .before) .before .before .before .before)) (lit< tt))
     (λ c. low-close (closedAt (c .before) .before .before .before .before)) (λ c κs. tt)
     (λ c. turn-less (turn (closedAt

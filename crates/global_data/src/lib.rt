@@ -7,8 +7,7 @@ ghost use lib.ListN.{length};
 ghost use Rattle.sets.specs.Truth.{same, choose};
 ghost use Rattle.global_data.specs.declared.Entry.{Entry};
 ghost use Rattle.global_data.specs.GlobalData.{portionsOf, dietOf, valueIn, dietFits};
-ghost use Rattle.global_data.specs.GlobalData.{nothingOf, oneOf, sameTo};
-ghost use Rattle.global_data.specs.Laws.{wordsFrom};
+ghost use Rattle.global_data.specs.GlobalData.{nothingOf, oneOf, fillOf, sameTo};
 
 // An entry: document 01's blank, or a value: portions, and the diet portions among them.
 pub enum Entry {
@@ -109,15 +108,19 @@ fn same_where(asked: bool, x: u32, y: u32) -> bool
     if asked { x == y } else { true }
 }
 
-// The words of the members become those of the row.
-pub fn take_words(values: &mut [u32; 16], row: [u32; 16], members: u16)
+// Each absent entry takes that of the row: the words are lent, and where the row has what the marks lack, its word is
+// taken. Gives the marks then.
+pub fn fill_words(values: &mut [u32; 16], marks: u16, row: GlobalData) -> u16
     requires { ⌜ length (now values) ≡ 16 ⌝ }
-    ensures { λ r. ⌜ now (values .exit) ≡ wordsFrom members row (now (values .entry)) ⌝ }
+    ensures { λ r. ⌜ fillOf (record { present = marks; values = now (values .entry) }) row
+        ≡ record { present = r; values = now (values .exit) } ⌝ }
 {
-    let mut left = members;
+    let words = row.values;
+    let mut left = sets::difference(row.present, marks);
     while left != 0 {
         let k = sets::lowest(left);
-        values[k] = row[k];
+        values[k] = words[k];
         left = sets::rest(left);
     }
+    sets::union(marks, row.present)
 }

@@ -12,7 +12,7 @@ ghost use Rattle.process.specs.Laws.{wordsWith};
 ghost use Rattle.sets.specs.Truth.{choose};
 ghost use Rattle.sets.specs.Set.{insertOf};
 use global_data::GlobalData;
-use global_data::take_words;
+use global_data::fill_words;
 
 // Document 01's terminal. Sets are bits, process i at bit i from 0.
 #[repr(C)]
@@ -287,10 +287,9 @@ impl Process {
             let y = sets::lowest(left);
             left = sets::rest(left);
             let row = rows[y];
-            let words = row.values;
-            let taken = sets::difference(row.present, g.present);
-            take_words(&mut g.values, words, taken);
-            g.present = sets::union(g.present, row.present);
+            let marks = g.present;
+            let more = fill_words(&mut g.values, marks, row);
+            g.present = more;
             if alike {
                 alike = row.same(old, n);
             }

@@ -12,7 +12,7 @@ use checks::crash_check;
 use checks::message_check;
 use checks::start_check;
 use checks::suspect_check;
-use global_data::take_words;
+use global_data::fill_words;
 use process::Closing;
 use records::decode;
 use sets::set_within;
@@ -177,10 +177,9 @@ pub fn run_bytes(bench: Bench, schedule: &[u8], budget: u32) -> Ended
                         let y = sets::lowest(left);
                         left = sets::rest(left);
                         let row = s.sent[y * 16 + r];
-                        let words = row.values;
-                        let taken = sets::difference(row.present, g.present);
-                        take_words(&mut g.values, words, taken);
-                        g.present = sets::union(g.present, row.present);
+                        let marks = g.present;
+                        let more = fill_words(&mut g.values, marks, row);
+                        g.present = more;
                         if alike {
                             alike = row.same(old, n);
                         }

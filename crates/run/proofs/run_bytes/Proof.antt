@@ -16,7 +16,6 @@ use Rattle.sets.specs.LowestLaws.{rest-less}
 use Rattle.sets.specs.Truth.{_&&_}
 use Rattle.sets.specs.TruthLaws.{not-on, not-off, and-on-l, and-off-l}
 use Rattle.global_data.specs.GlobalData.{noData, sameTo}
-use Rattle.global_data.specs.Laws.{fill-words}
 use Rattle.global_data.specs.PassLaws.{Passing, passing-new, passing-more}
 use Rattle.global_data.proofs.GlobalData as row
 use Rattle.process.specs.Fields.{withEstimate}
@@ -362,11 +361,11 @@ pass-less c =
     rw (c .rest .ensures) (rest-less (l .left) (search needs) (l .inv .0))
 
 loop3-less : tie.Need-loop3-less Inv-loop μ-loop Inv-loop3 μ-loop3 Inv-loop2 μ-loop2
-loop3-less c = pass-less (c .before .before .before .before .before .before .before .before)
+loop3-less c = pass-less (c .before .before .before .before .before)
 
 -- a turn of the pass: the row of the lowest is filled in and, unless one before it differed, compared
-pass-more : (c : tie.After-union Inv-loop μ-loop Inv-loop3 μ-loop3 Inv-loop2 μ-loop2) (still : Bool)
-    → let t = c .before .before .before .before .before .before in
+pass-more : (c : tie.After-fill-words Inv-loop μ-loop Inv-loop3 μ-loop3 Inv-loop2 μ-loop2) (still : Bool)
+    → let t = c .before .before .before in
     let l = t .before .before .before .loop3 in
     let b = t .before .before .before .before in
     let s = roundOf b .before .before .before .before .before .before .before .before .before .before .before .before
@@ -378,16 +377,13 @@ pass-more : (c : tie.After-union Inv-loop μ-loop Inv-loop3 μ-loop3 Inv-loop2 �
     × Passing (s .n)
     (removeOf (b .before .before .next .result) (roundOf b .before .before .before .before .before .e5 .given .0 .0))
     rows old (t .rest .result)
-    (record { present = c .union .result; values = c .before .take-words .last .0 }) still
+    (record { present = c .fill-words .result; values = c .fill-words .last .0 }) still
 pass-more c still e =
-    let t = c .before .before .before .before .before .before in
+    let t = c .before .before .before in
     let l = t .before .before .before .loop3 in (
       lt-trans (pass-less t) (l .inv .0),
       passing-more _ _ _ _ (l .left) (l .g) (l .alike) (search needs) (l .inv .0) (l .inv .1) _ _ _ _
-          (t .before .lowest .ensures .0) (t .rest .ensures)
-          (rw (c .union .ensures, c .before .take-words .ensures, c .before .before .before .difference .ensures)
-          (fill-words (l .g) _))
-          e,
+          (t .before .lowest .ensures .0) (t .rest .ensures) (sym (c .fill-words .ensures)) e,
     )
 
 loop3-again : tie.Need-loop3-again Inv-loop μ-loop Inv-loop3 μ-loop3 Inv-loop2 μ-loop2
@@ -395,7 +391,7 @@ loop3-again c =
     pass-more (c .before .before) _ (c .same .ensures ∙ sym (and-on-l _ _ (c .before .if9 .taken)))
 
 loop3-less-2 : tie.Need-loop3-less-2 Inv-loop μ-loop Inv-loop3 μ-loop3 Inv-loop2 μ-loop2
-loop3-less-2 c = pass-less (c .before .before .before .before .before .before .before)
+loop3-less-2 c = pass-less (c .before .before .before .before)
 
 loop3-again-2 : tie.Need-loop3-again-2 Inv-loop μ-loop Inv-loop3 μ-loop3 Inv-loop2 μ-loop2
 loop3-again-2 c = pass-more (c .before) _ (c .if9 .left ∙ sym (and-off-l _ _ (c .if9 .left)))
@@ -561,9 +557,8 @@ run-bytes-spec =
     (λ c κs. low-close (c .before .before .before .before .before .before)) loop3-holds (λ c κs. search needs)
     (λ c κs. search needs) (λ c. scaled-fits _ 16 _ (c .before .lowest .ensures .1) (lit< tt))
     (λ c. fits-under w64 _ 256 (row-slot c) tt) (λ c. scaled-fits _ 256 _ (row-slot c) (lit< tt)) (λ c. row-slot c)
-    (λ c κs. tt) (λ c κs. c .before .before .before .before .before .before .before .loop3 .inv .1 .long) (λ c κs. tt)
-    (λ c κs. close-sizes (roundOf
-    (c .before .before .before .before .before .before .before .before .before .before .before)) .0)
+    (λ c κs. c .before .before .before .before .before .loop3 .inv .1 .long)
+    (λ c κs. close-sizes (roundOf (c .before .before .before .before .before .before .before .before)) .0)
     loop3-less loop3-again loop3-less-2 loop3-again-2
     -- the process, and its next row
     finish-requires

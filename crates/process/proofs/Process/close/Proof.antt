@@ -10,7 +10,6 @@ use Rattle.sets.specs.LowestLaws.{rest-less}
 use Rattle.sets.specs.Truth.{_&&_}
 use Rattle.sets.specs.TruthLaws.{and-on-l, and-off-l}
 use Rattle.global_data.specs.GlobalData.{sameTo, rowsOf}
-use Rattle.global_data.specs.Laws.{fill-words}
 use Rattle.global_data.specs.PassLaws.{Passing, passing-new, passing-more}
 use Rattle.process.specs.ClosingLaws.{close-passed}
 use Rattle.process.proofs.Process.close.Statement.{statement}
@@ -36,26 +35,22 @@ less c =
     rw (c .rest .ensures) (rest-less (l .left) (search needs) (l .inv .0))
 
 -- a turn: the row of the lowest is filled in and, unless one before it differed, compared
-more : (c : tie.After-union Inv-loop μ-loop) (still : Bool)
-    → let t = c .before .before .before .before .before .before in
+more : (c : tie.After-fill-words Inv-loop μ-loop) (still : Bool)
+    → let t = c .before .before .before in
     let l = t .before .before .before .loop in
     let b = t .before .before .before .before in
     let x = b .before .before .before .args in
     let old = b .before .old-estimate .result in
     still ≡ (l .alike && sameTo (x .n) (rowsOf (x .t5) (t .before .lowest .result)) old)
     → (t .rest .result < 2 ^ 16)
-    × Passing (x .n) (removeOf (b .before .before .next .result) (x .a)) (rowsOf (x .t5))
-    old (t .rest .result)
-    (record { present = c .union .result; values = c .before .take-words .last .0 }) still
+    × Passing (x .n) (removeOf (b .before .before .next .result) (x .a)) (rowsOf (x .t5)) old (t .rest .result)
+    (record { present = c .fill-words .result; values = c .fill-words .last .0 }) still
 more c still e =
-    let t = c .before .before .before .before .before .before in
+    let t = c .before .before .before in
     let l = t .before .before .before .loop in (
       lt-trans (less t) (l .inv .0),
       passing-more _ _ _ _ (l .left) (l .g) (l .alike) (search needs) (l .inv .0) (l .inv .1) _ _ _ _
-          (t .before .lowest .ensures .0) (t .rest .ensures)
-          (rw (c .union .ensures, c .before .take-words .ensures, c .before .before .before .difference .ensures)
-          (fill-words (l .g) _))
-          e,
+          (t .before .lowest .ensures .0) (t .rest .ensures) (sym (c .fill-words .ensures)) e,
     )
 
 loop-again : tie.Need-loop-again Inv-loop μ-loop
@@ -80,7 +75,6 @@ finish-requires c κs =
 pub close-spec : {M : Type 1} → statement M
 close-spec = tie.close (tie.spec Inv-loop μ-loop (λ c κs. search needs) (λ c κs. search needs) (λ c κs. search needs)
     loop-holds (λ c κs. search needs) (λ c κs. search needs) (λ c. search needs) (λ c. search needs)
-    (λ c κs. search needs)
-    (λ c κs. c .before .before .before .before .before .before .before .loop .inv .1 .long) (λ c κs. search needs)
-    (λ c κs. search needs) (λ c. less (c .before .before .before .before .before .before .before .before)) loop-again
-    (λ c. less (c .before .before .before .before .before .before .before)) loop-again-2 finish-requires returns)
+    (λ c κs. c .before .before .before .before .before .loop .inv .1 .long) (λ c κs. search needs)
+    (λ c. less (c .before .before .before .before .before)) loop-again
+    (λ c. less (c .before .before .before .before)) loop-again-2 finish-requires returns)

@@ -35,8 +35,8 @@ loop-again c =
       lt-trans (less c) (l .inv .0),
       length-set (l .values) (c .before .lowest .result) _ ∙ l .inv .1,
       rw (c .rest .ensures, c .before .lowest .ensures .0)
-          (words-more (l .left) (c .before .before .before .before .before .before .args .row .values) (l .values) _ (l .inv .1)
-          (lowest-lt (l .left) p (l .inv .0)) (lowest-in (l .left) p (l .inv .0))
+          (words-more (l .left) (c .before .before .before .before .before .before .args .row .values) (l .values) _
+          (l .inv .1) (lowest-lt (l .left) p (l .inv .0)) (lowest-in (l .left) p (l .inv .0))
           ∙ l .inv .2),
     )
 
@@ -51,5 +51,5 @@ returns c =
 
 pub fill-words-spec : {M : Type 1} → statement M
 fill-words-spec = tie.close (tie.spec Inv-loop μ-loop (λ c κs. search needs) loop-holds (λ c κs. search needs)
-    (λ c. search needs) (λ c. search needs) (λ c. search needs) (λ c. search needs) (λ c κs. search needs) less loop-again
-    (λ c κs. search needs) returns)
+    (λ c. search needs) (λ c. search needs) (λ c. search needs) (λ c. search needs) (λ c κs. search needs) less
+    loop-again (λ c κs. search needs) returns)

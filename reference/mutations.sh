@@ -43,8 +43,7 @@ try() {
 }
 
 try own-old-estimate-left-out src/step.rs \
-    'p.estimate.same(new) && members(next & !bit(a)).all(|m| self.sent_in(m, p.round).same(new))' \
-    'members(next & !bit(a)).all(|m| self.sent_in(m, p.round).same(new))'
+    'settled' 'previous == next && members(next & !bit(a)).all(|m| self.sent[row(m, round)].same(&self.processes[a].estimate))'
 try zero-started-as-absent src/step.rs \
     'p.estimate.set(a, value);' 'if value != Value::ZERO { p.estimate.set(a, value); }'
 try zero-filled-as-absent src/layout.rs \
@@ -55,17 +54,17 @@ try zero-shown-as-absent src/layout.rs \
 try received-dropped-once-suspected src/step.rs \
     'Ok(p.current & arrived)' 'Ok(p.current & arrived & !p.suspected)'
 try decide-on-equal-estimates-alone src/step.rs \
-    'self.processes[a].previous == next && self.all_equal(a, next, new)' 'self.all_equal(a, next, new)'
-try estimate-changed-since-the-opening src/layout.rs \
-    '&self.sent[a * Bench::MAX + round as usize - 1]' '{ let _ = round; &self.processes[a].estimate }'
+    'let mut settled = previous == next;' 'let mut settled = true || previous == next;'
+try estimate-changed-since-the-opening src/step.rs \
+    'let received = &self.sent[row(m, round)];' 'let received = &{ let _ = round; self.processes[m].estimate };'
 
 # Not among the paper's slips: that each property check can fail.
 try never-decide-early src/step.rs \
-    'self.processes[a].previous == next && self.all_equal(a, next, new)' 'false && self.all_equal(a, next, new)'
+    'let mut settled = previous == next;' 'let mut settled = false && previous == next;'
 try early-estimates-lost src/step.rs \
     'if !p.has_decided() && (early || expected) {' 'if !p.has_decided() && expected {'
 try decision-sent-back src/step.rs \
-    'self.decide(b, self.processes[a].estimate, bit(a));' 'self.decide(b, self.processes[a].estimate, 0);'
+    'self.decide(b, bit(a));' 'self.decide(b, 0);'
 try close-without-waiting src/step.rs \
     'if p.current & !(arrived | p.suspected) != 0 {' 'if false {'
 try suspect-twice src/step.rs \
@@ -127,7 +126,7 @@ try only-by-1-in-global-data src/read.rs \
 
 # How a round ended.
 try agreed-where-both-hold src/step.rs \
-    'if self.in_last_round(a) {' 'if self.in_last_round(a) && !self.settled(a, next, new) {'
+    'if self.in_last_round(a) {' 'if self.in_last_round(a) && !settled {'
 try arriving-decision-as-a-close src/step.rs \
     'Event::Arrive { a, b, message } => self.arrive(a, b, message)?,' \
     'Event::Arrive { a, b, message } => { self.arrive(a, b, message)?; if message == Message::Decision { return Ok(Closing::Agreed); } }'
@@ -298,14 +297,12 @@ try another-kind-is-closed src/calendar.rs '_ => return Err(Fault::Kind),' '_ =>
 try no-site-accepted src/calendar.rs 'if bench.n == 0 {' 'if false {'
 
 # Diet portions.
-same='self.present == other.present && members(self.present).all(|i| self.value(i) == other.value(i))'
-try diet-not-compared src/layout.rs "$same" \
-    'self.present == other.present && members(self.present).all(|i| self.value(i).portions == other.value(i).portions)'
-try portions-not-compared src/layout.rs "$same" \
-    'self.present == other.present && members(self.present).all(|i| self.value(i).diet == other.value(i).diet)'
-try diet-not-compared-in-the-deciding-test src/step.rs \
-    'p.estimate.same(new) && members(next & !bit(a)).all(|m| self.sent_in(m, p.round).same(new))' \
-    'let equal = |x: &GlobalData| x.present == new.present && members(x.present).all(|i| x.value(i).portions == new.value(i).portions); p.estimate.same(new) && members(next & !bit(a)).all(|m| equal(self.sent_in(m, p.round)))'
+equal='let equal = |i| self.value(i) == other.value(i);'
+try diet-not-compared src/layout.rs "$equal" 'let equal = |i| self.value(i).portions == other.value(i).portions;'
+try portions-not-compared src/layout.rs "$equal" 'let equal = |i| self.value(i).diet == other.value(i).diet;'
+compare='settled = settled && received.same(estimate);'
+try diet-not-compared-in-the-deciding-test src/step.rs "$compare" \
+    'settled = settled && received.present == estimate.present && members(received.present).all(|i| received.value(i).portions == estimate.value(i).portions);'
 read='let value = Value::from_bytes([v0, v1, v2, v3]);'
 try parts-swapped-in-reading src/record.rs "$read" 'let value = Value::from_bytes([v2, v3, v0, v1]);'
 try value-high-bytes-first src/record.rs "$read" 'let value = Value::from_bytes([v1, v0, v3, v2]);'
@@ -380,3 +377,34 @@ try change-reads-the-word src/aggregates.rs \
     'Ok(portions(entries[i]) as i64 - standing as i64)' 'Ok(entries[i] as i64 - standing as i64)'
 try standing-of-16-bits src/aggregates.rs "$value" \
     'let value = |i: usize| if present & bit(i) != 0 { portions(entries[i]) as u32 } else { standing[i] & 0xffff };'
+
+# The close in one pass.
+fill='estimate.fill(received);'
+each='for m in members(next & !bit(a)) {'
+try compared-after-filling src/step.rs "$compare" "$fill $compare"
+try compared-with-the-first-received src/step.rs "$compare" \
+    'settled = settled && received.same(&self.sent[row((next & !bit(a)).trailing_zeros() as usize, round)]);'
+try marks-alone-compared src/step.rs "$compare" 'settled = settled && received.present == estimate.present;'
+try common-entries-alone-compared src/step.rs "$compare" \
+    'settled = settled && members(received.present & estimate.present).all(|i| received.value(i) == estimate.value(i));'
+try words-under-absent-compared src/step.rs "$compare" 'settled = settled && *received == *estimate;'
+try equal-words-whatever-the-marks src/layout.rs \
+    'self.present == other.present && (self.values == other.values || members(self.present).all(equal))' \
+    'self.values == other.values || self.present == other.present && members(self.present).all(equal)'
+try first-not-compared src/step.rs "$compare" \
+    'settled = settled && (m == (next & !bit(a)).trailing_zeros() as usize || received.same(estimate));'
+try last-not-compared src/step.rs "$compare" \
+    'settled = settled && (m + 1 == 16 - (next & !bit(a)).leading_zeros() as usize || received.same(estimate));'
+try last-alone-compared src/step.rs "$compare" 'settled = previous == next && received.same(estimate);'
+try compared-only-where-nothing-is-filled src/step.rs "$compare" \
+    'settled = settled && (received.present & !estimate.present != 0 || received.same(estimate));'
+try last-does-not-fill src/step.rs "$fill" \
+    'if m + 1 != 16 - (next & !bit(a)).leading_zeros() as usize { estimate.fill(received); }'
+try filling-ends-where-one-differs src/step.rs "$compare" "$compare if !settled { $fill break; }"
+try filled-over-present src/layout.rs \
+    'for i in members(other.present & !self.present) {' 'for i in members(other.present) {'
+try highest-member-first src/step.rs "$each" 'for m in members(next & !bit(a)).collect::<Vec<usize>>().into_iter().rev() {'
+try own-row-read-too src/step.rs "$each" 'for m in members(next) {'
+try rows-of-all-read src/step.rs "$each" 'for m in members(self.everyone() & !bit(a)) {'
+try set-test-with-the-current-set src/step.rs \
+    'let mut settled = previous == next;' 'let mut settled = previous == self.processes[a].current;'

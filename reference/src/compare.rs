@@ -10,6 +10,7 @@ use crate::met::{
     RUN_AT_ONCE, SHOWN, SHOWN_WORDS, TELLING, WAITING,
 };
 use crate::proved::Progress;
+use crate::received::{self, Closed};
 use crate::record::index;
 use crate::refusal::number;
 use crate::summed::{self, any_lists, Aggregates, Asked, Lists};
@@ -374,21 +375,37 @@ impl Pair {
         self.reads(rng);
     }
 
-    /// A close of a before the last round, where one of the estimates differs so or not at all: by the call for one,
-    /// by run, and by the rule.
+    /// A close of a before the last round, where one of the estimates differs so or not at all: each way, and by the
+    /// rule.
     fn nearly_agreed(&mut self, state: &Bench, a: usize, difference: Difference, rng: &mut Rng) {
+        let closing = self.close_each_way(state, a, rng);
+        if let Err(broken) = self.met.deciding.count(difference, closing) {
+            panic!("{}, call {}: {broken}", self.place, self.calls);
+        }
+        self.reads(rng);
+    }
+
+    /// A close of a that is due, by run and by the call for one; gives its closing, by the state that it left.
+    fn close_each_way(&mut self, state: &Bench, a: usize, rng: &mut Rng) -> Closing {
         let close = Record::close(a as u8 + 1).bytes();
         self.put(state);
         self.run(&close, 1);
         self.put(state);
         let answer = self.step(&close, rng);
-        let decided = self.proved.processes[a].has_decided();
-        let closing = if decided { Closing::Agreed } else { Closing::NextRound };
         self.same("a close that is due", answer, 0);
-        if let Err(broken) = self.met.deciding.count(difference, closing) {
-            panic!("{}, call {}: {broken}", self.place, self.calls);
+        let p = &self.proved.processes[a];
+        match (p.has_decided(), p.round == state.t + 1) {
+            (false, _) => Closing::NextRound,
+            (true, false) => Closing::Agreed,
+            (true, true) => Closing::LastRound,
         }
-        self.reads(rng);
+    }
+
+    /// The same, and counts what it met.
+    fn nearly_equal(&mut self, bench: &Bench, a: usize, rng: &mut Rng) {
+        let closing = self.close_each_way(bench, a, rng);
+        let new = &self.proved.processes[a].estimate;
+        self.met.closes.count(&Closed { bench, a, closing, new });
     }
 
     fn reads(&mut self, rng: &mut Rng) {
@@ -709,6 +726,18 @@ pub fn any_values(n: u8, t: u8, seed: u64) -> Met {
     pair.met
 }
 
+/// Closes that are due, where what was received is nearly equal to what is held.
+pub fn nearly_equal_closes(n: u8, t: u8, seed: u64) -> Met {
+    let mut rng = Rng::new(seed ^ 0xc105e ^ (n as u64) << 48 ^ (t as u64) << 56);
+    let bench = Bench::open(n, t).expect("a good size");
+    let mut pair = Pair::new(bench, format!("seed {seed}, n {n}, t {t}, closes"));
+    for _ in 0..20 {
+        let (state, a) = received::nearly_equal(&mut rng, n, t);
+        pair.nearly_equal(&state, a, &mut rng);
+    }
+    pair.met
+}
+
 /// A state with any values in all its data: stepped, run and read, then damaged.
 fn states_of_values(pair: &mut Pair, mut state: Bench, rng: &mut Rng) {
     let (n, t) = (state.n, state.t);
@@ -756,6 +785,10 @@ pub fn everything(seed: u64, schedules: u64) -> Met {
     for seed in seeds() {
         met.add(&value_aggregates(seed));
         gen::sizes().for_each(|(n, t)| met.add(&any_values(n, t, seed)));
+    }
+    for seed in seeds() {
+        let early = gen::sizes().filter(|&(_, t)| t > 0);
+        early.for_each(|(n, t)| met.add(&nearly_equal_closes(n, t, seed)));
     }
     met
 }

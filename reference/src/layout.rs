@@ -66,6 +66,11 @@ pub fn members(mut set: u16) -> impl Iterator<Item = usize> {
     })
 }
 
+/// The place in `sent` of what a sent in a round from 1.
+pub fn row(a: usize, round: u8) -> usize {
+    a * Bench::MAX + round as usize - 1
+}
+
 /// Refusal 1, or nothing.
 pub fn check_n(n: u8) -> Result<(), Refusal> {
     if (1..=Bench::MAX as u8).contains(&n) {
@@ -101,7 +106,9 @@ impl GlobalData {
 
     /// Equal entry by entry, in portions and diet portions; words under absent entries do not count.
     pub fn same(&self, other: &GlobalData) -> bool {
-        self.present == other.present && members(self.present).all(|i| self.value(i) == other.value(i))
+        let equal = |i| self.value(i) == other.value(i);
+        // The words mostly are all equal, and that is seen at once.
+        self.present == other.present && (self.values == other.values || members(self.present).all(equal))
     }
 
     /// Absent entries take those of `other`.
@@ -163,11 +170,6 @@ impl Bench {
     /// All n processes as a set.
     pub fn everyone(&self) -> u16 {
         all(self.n)
-    }
-
-    /// The estimate that a sent in a round from 1.
-    pub fn sent_in(&self, a: usize, round: u8) -> &GlobalData {
-        &self.sent[a * Bench::MAX + round as usize - 1]
     }
 
     /// No n, t, round, set or mark is out of range, in used rows and unused ones. `decided` may be any byte.

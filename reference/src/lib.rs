@@ -8,6 +8,7 @@ pub mod calendar;
 pub mod calendar_text;
 pub mod calendars;
 pub mod check;
+pub mod closes;
 pub mod closing;
 #[cfg(feature = "proved")]
 pub mod compare;
@@ -25,6 +26,7 @@ pub mod met;
 #[cfg(feature = "proved")]
 pub mod proved;
 pub mod read;
+pub mod received;
 pub mod record;
 pub mod refusal;
 pub mod run;

@@ -3,6 +3,7 @@
 use crate::kinds::Kinds;
 use crate::layout::{all, members};
 use crate::listed::Listed;
+use crate::received::Closes;
 use crate::summed::{Lists, Summed};
 use crate::values::{Deciding, Starts};
 use crate::{Closing, Event, Message};
@@ -10,8 +11,9 @@ use std::cmp::Ordering::{self, Equal, Greater, Less};
 use std::ops::Range;
 
 /// What was met: records given, answers by their number, 0 for none refused, closings, bytes in `decided`, totals,
-/// lists in transit, first of other states, then of those that a schedule reaches; and of diet portions starts,
-/// aggregates, closes of nearly equal estimates, and what had too many of them.
+/// lists in transit, first of other states, then of those that a schedule reaches; of diet portions starts,
+/// aggregates, closes of nearly equal estimates, and what had too many of them; and the closes of any that are nearly
+/// equal.
 #[derive(Clone, Default, Debug)]
 pub struct Met {
     pub records: u64,
@@ -25,6 +27,7 @@ pub struct Met {
     pub summed: Summed,
     pub deciding: Deciding,
     pub held: Held,
+    pub closes: Closes,
 }
 
 /// How often each of `HELD` was met.
@@ -268,6 +271,7 @@ impl Met {
         self.summed.add(&other.summed);
         self.deciding.add(&other.deciding);
         self.held.0.add(&other.held.0);
+        self.closes.add(&other.closes);
         for (sum, more) in self.answers.iter_mut().zip(other.answers) {
             *sum += more;
         }

@@ -1,7 +1,7 @@
 //! One record: the protocol steps, in place.
 
-use crate::layout::{bit, members};
-use crate::{Bench, Closing, Event, GlobalData, Message, Record, Refusal, Value};
+use crate::layout::{bit, members, row};
+use crate::{Bench, Closing, Event, GlobalData, Message, Process, Record, Refusal, Value};
 
 type Answer = Result<(), Refusal>;
 
@@ -52,7 +52,7 @@ impl Bench {
         let p = &mut self.processes[a];
         p.round += 1;
         p.outbox = p.current & !bit(a);
-        self.sent[a * Bench::MAX + p.round as usize - 1] = p.estimate;
+        self.sent[row(a, p.round)] = p.estimate;
     }
 
     fn send(&mut self, a: usize, b: usize) -> Answer {
@@ -90,26 +90,26 @@ impl Bench {
 
     fn receive_decision(&mut self, a: usize, b: usize) {
         if self.processes[b].round != 0 && !self.processes[b].has_decided() {
-            self.decide(b, self.processes[a].estimate, bit(a));
+            self.processes[b].estimate = self.processes[a].estimate;
+            self.decide(b, bit(a));
         }
     }
 
-    /// a decides; all but those in `told`, itself and its suspects are to hear of it.
-    fn decide(&mut self, a: usize, data: GlobalData, told: u16) {
+    /// a decides on its estimate; all but those in `told`, itself and its suspects are to hear of it.
+    fn decide(&mut self, a: usize, told: u16) {
         let everyone = self.everyone();
         let p = &mut self.processes[a];
         p.decided = 1;
-        p.estimate = data;
         p.outbox = everyone & !(bit(a) | p.suspected | told);
     }
 
     fn close(&mut self, a: usize) -> Result<Closing, Refusal> {
         let next = self.next_of(a)?;
-        let estimate = self.merged(a, next);
-        let closing = self.closing(a, next, &estimate);
+        let settled = self.merge(a, next);
+        let closing = self.closing(a, settled);
         match closing {
-            Closing::NextRound => self.advance(a, next, estimate),
-            _ => self.decide(a, estimate, 0),
+            Closing::NextRound => self.advance(a, next),
+            _ => self.decide(a, 0),
         }
         Ok(closing)
     }
@@ -127,21 +127,26 @@ impl Bench {
         Ok(p.current & arrived)
     }
 
-    /// The estimate of a, its absent entries filled from those of `next`, lowest member first.
-    fn merged(&self, a: usize, next: u16) -> GlobalData {
-        let p = &self.processes[a];
-        let mut estimate = p.estimate;
+    /// One pass over the estimates received from `next`, lowest member first: the absent entries of a take theirs.
+    /// Gives whether there is a ground to decide before the last round. The new estimate equals them all and the old
+    /// one just where none differs from the old one; until one does, nothing is filled, so the old one is still there.
+    fn merge(&mut self, a: usize, next: u16) -> bool {
+        let Process { round, previous, .. } = self.processes[a];
+        let mut settled = previous == next;
         for m in members(next & !bit(a)) {
-            estimate.fill(self.sent_in(m, p.round));
+            let received = &self.sent[row(m, round)];
+            let estimate = &mut self.processes[a].estimate;
+            settled = settled && received.same(estimate);
+            estimate.fill(received);
         }
-        estimate
+        settled
     }
 
     /// How the round of a ends: the last one is told as such, also where the estimates agree.
-    fn closing(&self, a: usize, next: u16, new: &GlobalData) -> Closing {
+    fn closing(&self, a: usize, settled: bool) -> Closing {
         if self.in_last_round(a) {
             Closing::LastRound
-        } else if self.settled(a, next, new) {
+        } else if settled {
             Closing::Agreed
         } else {
             Closing::NextRound
@@ -152,26 +157,13 @@ impl Bench {
         self.processes[a].round == self.t + 1
     }
 
-    /// The ground to decide before the last round.
-    fn settled(&self, a: usize, next: u16, new: &GlobalData) -> bool {
-        self.processes[a].previous == next && self.all_equal(a, next, new)
-    }
-
     /// A close of a is due that decides on both grounds. No step asks for it: the tests tell by it what they met.
     pub fn both_grounds(&self, a: usize) -> bool {
-        let settled = |next| self.settled(a, next, &self.merged(a, next));
-        self.in_last_round(a) && self.next_of(a).is_ok_and(settled)
+        self.in_last_round(a) && self.next_of(a).is_ok_and(|next| { *self }.merge(a, next))
     }
 
-    /// The new estimate equals those received from `next` and the old one of a.
-    fn all_equal(&self, a: usize, next: u16, new: &GlobalData) -> bool {
-        let p = &self.processes[a];
-        p.estimate.same(new) && members(next & !bit(a)).all(|m| self.sent_in(m, p.round).same(new))
-    }
-
-    fn advance(&mut self, a: usize, next: u16, estimate: GlobalData) {
+    fn advance(&mut self, a: usize, next: u16) {
         let p = &mut self.processes[a];
-        p.estimate = estimate;
         p.previous = p.current;
         p.current = next;
         self.open_round(a);

@@ -2,8 +2,9 @@
 //! `bench [repeats]`. The ratio is the proved library's time over the reference's.
 
 use reference::calendar::{self, Entry, Kind, Week};
+use reference::closes::{due, ends};
 use reference::gen::{schedule, schedule_without_crashes, Rng};
-use reference::{gen, proved, Bench, Cause, Counters};
+use reference::{gen, proved, Bench, Cause, Closing, Counters};
 use std::hint::black_box;
 use std::io::Write;
 use std::path::Path;
@@ -12,10 +13,16 @@ use std::time::Instant;
 
 const SEEDS: std::ops::RangeInclusive<u64> = 1..=20;
 const MILLION: usize = 1_000_000;
+/// More repeats of closes, since what is subtracted is large beside what is left.
+const MORE_OF_CLOSES: usize = 10;
 
 fn main() {
     let repeats = std::env::args().nth(1).map_or(41, |word| word.parse().expect("a number"));
-    println!("state {} bytes; {repeats} repeats, alternating, medians", size_of::<Bench>());
+    println!(
+        "state {} bytes; {repeats} repeats, of closes {} times as many, alternating, medians",
+        size_of::<Bench>(),
+        MORE_OF_CLOSES
+    );
     println!("{:34} {:>12} {:>12} {:>7}", "ns each (records/s)", "proved", "reference", "ratio");
     for n in [3, 12, 16] {
         for crashes in [false, true] {
@@ -24,6 +31,11 @@ fn main() {
     }
     for n in [3, 12, 16] {
         steps(n, repeats);
+    }
+    for n in [3, 12, 16] {
+        for filled in [false, true] {
+            closes(n, filled, repeats);
+        }
     }
     soundness(repeats);
     for near in [false, true] {
@@ -83,6 +95,56 @@ fn steps(n: u8, repeats: usize) {
     report(&format!("one record, n {n}"), records, repeats, || each(&ours), || each(&plain));
 }
 
+/// Closes alone: a run of one for each process, less a run of nothing on the same state, which is as much checked and
+/// copied.
+fn closes(n: u8, filled: bool, repeats: usize) {
+    const TIMES: usize = 500;
+    let (state, closes) = due(n, filled);
+    each_ends(&state, &closes, ends(filled));
+    let whole = (Cause::Done, n as u32, ends(filled).number());
+    let nothing = (Cause::Done, 0, Closing::None.number());
+    let alone = |run: Run| {
+        time_runs(run, TIMES, &state, &closes, whole) - time_runs(run, TIMES, &state, &[], nothing)
+    };
+    let kind = if filled { "nothing to fill" } else { "all to fill" };
+    let name = format!("close, n {n}, {kind}");
+    let repeats = MORE_OF_CLOSES * repeats;
+    report_times(&name, TIMES * n as usize, repeats, || alone(proved_run), || alone(plain_run));
+}
+
+/// Both answer each of the closes so.
+fn each_ends(state: &Bench, closes: &[u8], closing: Closing) {
+    let (mut ours, mut plain, mut tally) = (*state, *state, Counters::default());
+    for record in closes.chunks(Bench::RECORD) {
+        assert_eq!(proved::step(&mut ours, record, &mut tally), (0, closing.number()));
+        assert_eq!(plain.step(record), Ok(closing));
+    }
+    assert!(ours == plain, "the states differ");
+}
+
+/// Gives why it ended, how many records it accepted, and the number of its closing.
+type Run = fn(&mut Bench, &[u8]) -> (Cause, u32, u8);
+
+fn proved_run(bench: &mut Bench, schedule: &[u8]) -> (Cause, u32, u8) {
+    let (cause, progress) = proved::run(bench, schedule, u32::MAX);
+    (cause, progress.accepted, progress.closing)
+}
+
+fn plain_run(bench: &mut Bench, schedule: &[u8]) -> (Cause, u32, u8) {
+    let ended = bench.run(schedule, u32::MAX);
+    (ended.cause, ended.accepted, ended.closing.number())
+}
+
+/// So many runs of one schedule, each from this state.
+fn time_runs(run: Run, times: usize, state: &Bench, schedule: &[u8], expected: (Cause, u32, u8)) -> f64 {
+    time(&mut || {
+        for _ in 0..times {
+            let mut bench = *state;
+            assert_eq!(run(black_box(&mut bench), black_box(schedule)), expected);
+        }
+    })
+}
+
 /// The soundness check: the proved one by a run of nothing, which also copies the state in and out.
 fn soundness(repeats: usize) {
     const TIMES: usize = 2000;
@@ -127,10 +189,21 @@ fn million_entries(near: bool) -> Vec<u8> {
 }
 
 fn report(name: &str, things: usize, repeats: usize, mut ours: impl FnMut(), mut plain: impl FnMut()) {
+    report_times(name, things, repeats, || time(&mut ours), || time(&mut plain));
+}
+
+/// Each gives the nanoseconds that it took for all the things.
+fn report_times(
+    name: &str,
+    things: usize,
+    repeats: usize,
+    mut ours: impl FnMut() -> f64,
+    mut plain: impl FnMut() -> f64,
+) {
     let mut times: [Vec<f64>; 2] = Default::default();
     for _ in 0..repeats {
-        times[0].push(time(&mut ours));
-        times[1].push(time(&mut plain));
+        times[0].push(ours());
+        times[1].push(plain());
     }
     let [x, y] = times.map(|times| median(times) / things as f64);
     let speed = |each: f64| format!("{each:.1} ({:.1} M/s)", 1e3 / each);

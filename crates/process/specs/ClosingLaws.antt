@@ -1,7 +1,7 @@
 -- How a round ends: in round t + 1 by the last round, whatever the estimates are; in an earlier one as the test says,
 -- which one pass over the estimates decides. The next round opens exactly where the process is then undecided. By the
 -- two tests, and by what a close leaves.
-use mathlib.Core.Path.{_≡_, ap}
+use mathlib.Core.Path.{_≡_, refl, ap}
 use mathlib.Core.Bool.{Bool, false, not}
 use Prim.Native.Nat.{ℕ, _+_, _≤_}
 use Rattle.sets.specs.Set.{removeOf}
@@ -47,11 +47,13 @@ module _ (n t a : ℕ) (rows : ℕ → GlobalData) (p : Process) where
       go (off e) = rw (close-off n t a rows p e)
 
   -- once the pass over the peers' rows is made: q and x are what the code makes of it but for the estimate
-  module _ (next : ℕ) (g : GlobalData) (alike : Bool) (q : Process) (x : Closing) (f : next ≡ nextOf a p)
-      (w : Passing n (removeOf next a) rows (p .estimate) 0 g alike) where
+  module _ (next seen : ℕ) (g : GlobalData) (alike : Bool) (q : Process) (x : Closing) (f : next ≡ nextOf a p)
+      (w : Passing n (removeOf next a) rows (p .estimate) seen 0 g alike) where
     passed : (g ≡ filledOf a rows p) × (alike ≡ allSame 16 n (peersOf a p) rows (p .estimate))
     unfolding filledOf peersOf
-    passed = let d = passing-done n (removeOf next a) rows (p .estimate) g alike w in (rw f at (d .0), rw f at (d .1))
+    passed =
+        let d = passing-done n (removeOf next a) rows (p .estimate) seen 0 g alike w refl in
+        (rw f at (d .0), rw f at (d .1))
 
     pub close-passed : ((rows : ℕ → GlobalData) → alike ≡ allSame 16 n (peersOf a p) rows (p .estimate)
         → (q ≡ withEstimate (p .estimate) (closeOf n t a rows p)) × (x ≡ closingOf n t a rows p))

@@ -283,16 +283,19 @@ impl Process {
         let mut g = old;
         let mut alike = true;
         let mut left = sets::remove(next, a);
+        let mut y = 0;
         while left != 0 {
-            let y = sets::lowest(left);
-            left = sets::rest(left);
-            let row = rows[y];
-            let marks = g.present;
-            let more = fill_words(&mut g.values, marks, row);
-            g.present = more;
-            if alike {
-                alike = row.same(old, n);
+            if left % 2 == 1 {
+                let row = rows[y];
+                let marks = g.present;
+                let more = fill_words(&mut g.values, marks, row);
+                g.present = more;
+                if alike {
+                    alike = row.same(old, n);
+                }
             }
+            left = left / 2;
+            y += 1;
         }
         let c = self.finish(n, t, a, next, alike);
         let mut process = c.process;

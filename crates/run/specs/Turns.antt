@@ -5,7 +5,7 @@ use mathlib.Core.Path.{_≡_, refl, sym, ap, _∙_}
 use mathlib.Core.Logic.{_≢_}
 use mathlib.Core.List.{List}
 use mathlib.Core.Bool.{Bool, true, false}
-use Prim.Native.Nat.{ℕ, _+_, _-_, _*_, _≤_, _<_}
+use Prim.Native.Nat.{ℕ, _+_, _-_, _*_, _/_, _%_, _≤_, _<_}
 use native.Mathlib.Omega.{arith}
 use lib.ListN.{length, getD, set, take, drop, length-take, length-drop}
 use lib.Seq.{drop-drop}
@@ -338,6 +338,10 @@ module _ (s : Bench) where
 abbrev pub rowsIn : List GlobalData → ℕ → ℕ → GlobalData
 rowsIn sent r y = getD sent (y * 16 + r) noData
 
+-- the one at i, which is of that round
+pub row-at : (sent : List GlobalData) (r i : ℕ) → i % 16 ≡ r → getD sent i noData ≡ rowsIn sent r (i / 16)
+row-at sent r i e = ap (λ (k : ℕ). getD sent k noData) (omega arith)
+
 -- ---- the closing: of a close it is the new one, and any other event keeps the one before
 module _ (c : Closing) (s : Bench) where
   pub kept-start : (a v : ℕ) → c ≡ lastOf c (closingAt (Start a v) s)
@@ -368,9 +372,9 @@ pub record Closes (c x : Closing) (s : Bench) (a : ℕ) (q : Process) : Type 0 w
   pub round : hasDecided q ≡ false → s .t < 16 → processAt s a .round ≤ s .t + 1 → (1 ≤ q .round) × (q .round ≤ 16)
 
 -- once its pass is made: `next` is the code's next set, and q what it makes of a but for the estimate
-module _ (c x : Closing) (s : Bench) (a r next : ℕ) (g : GlobalData) (alike : Bool) (q : Process)
+module _ (c x : Closing) (s : Bench) (a r next seen : ℕ) (g : GlobalData) (alike : Bool) (q : Process)
     (e : r ≡ processAt s a .round - 1) (f : next ≡ nextOf a (processAt s a))
-    (w : Passing (s .n) (removeOf next a) (rowsIn (s .sent) r) (processAt s a .estimate) 0 g alike)
+    (w : Passing (s .n) (removeOf next a) (rowsIn (s .sent) r) (processAt s a .estimate) seen 0 g alike)
     (k : (rows : ℕ → GlobalData)
     → alike ≡ allSame 16 (s .n) (peersOf a (processAt s a)) rows (processAt s a .estimate)
     → (q ≡ withEstimate (processAt s a .estimate) (closeOf (s .n) (s .t) a rows (processAt s a)))
@@ -385,7 +389,7 @@ module _ (c x : Closing) (s : Bench) (a r next : ℕ) (g : GlobalData) (alike : 
   closed : (after ≡ closeOf (s .n) (s .t) a rows (processAt s a))
       × (x ≡ closingOf (s .n) (s .t) a rows (processAt s a))
   unfolding rowsAt sentAt
-  closed = close-passed (s .n) (s .t) a rows (processAt s a) next g alike q x f (rw e at w) k
+  closed = close-passed (s .n) (s .t) a rows (processAt s a) next seen g alike q x f (rw e at w) k
 
   opened : hasDecided after ≡ false → (after .round ≡ processAt s a .round + 1) × (processAt s a .round ≢ s .t + 1)
   opened d = rw (closed .0) (close-opens (s .n) (s .t) a rows (processAt s a) (rw (closed .0) at d))

@@ -168,21 +168,24 @@ pub fn run_bytes(bench: Bench, schedule: &[u8], budget: u32) -> Ended
                     let r = round_index(p.round);
                     let next = p.next(a);
                     // one pass over what the others of the next set sent: an absent entry takes theirs, and each is
-                    // compared with the old estimate
+                    // compared with the old estimate. `left` has their bits from the process on whose row is at i
                     let old = p.old_estimate();
                     let mut g = old;
                     let mut alike = true;
                     let mut left = sets::remove(next, a);
+                    let mut i = r;
                     while left != 0 {
-                        let y = sets::lowest(left);
-                        left = sets::rest(left);
-                        let row = s.sent[y * 16 + r];
-                        let marks = g.present;
-                        let more = fill_words(&mut g.values, marks, row);
-                        g.present = more;
-                        if alike {
-                            alike = row.same(old, n);
+                        if left % 2 == 1 {
+                            let row = s.sent[i];
+                            let marks = g.present;
+                            let more = fill_words(&mut g.values, marks, row);
+                            g.present = more;
+                            if alike {
+                                alike = row.same(old, n);
+                            }
                         }
+                        left = left / 2;
+                        i += 16;
                     }
                     let c = p.finish(n, t, a, next, alike);
                     let mut q = c.process;

@@ -2,21 +2,19 @@
 -- The second is the run: the bench is sound, and the run from here on gives what the whole run gives
 -- (`Running`). A turn is one law of `Turns`: each event's check and effect are those of the definitions on the parts
 -- that the code reads and stores. The third is the pass of a close over the rows of its round (`Passing`).
-use mathlib.Core.Path.{_≡_, refl, sym, _∙_}
-use mathlib.Core.Bool.{Bool, true}
+use mathlib.Core.Path.{_≡_, refl, sym, ap, _∙_}
+use mathlib.Core.Logic.{⊎-elim}
+use mathlib.Core.Bool.{true}
 use mir.Syntax.{w64}
-use Prim.Native.Nat.{_+_, _-_, _*_, _^_, _≤_, _<_}
-use native.Mathlib.Nat.{lt-trans}
+use Prim.Native.Nat.{_+_, _-_, _*_, _/_, _%_, _≤_, _<_}
 use native.Mathlib.Omega.{arith}
 use lib.ListN.{length, getD, length-map}
 use lib.Dec.{lit<}
 use borrow.Author.Needs.{needs, fits-under, scaled-fits}
 use Rattle.sets.specs.Set.{removeOf}
-use Rattle.sets.specs.LowestLaws.{rest-less}
-use Rattle.sets.specs.Truth.{_&&_}
-use Rattle.sets.specs.TruthLaws.{not-on, not-off, and-on-l, and-off-l}
-use Rattle.global_data.specs.GlobalData.{noData, sameTo}
-use Rattle.global_data.specs.PassLaws.{Passing, passing-new, passing-more}
+use Rattle.sets.specs.TruthLaws.{not-on, not-off, and-on-r, and-off-r}
+use Rattle.global_data.specs.GlobalData.{noData, fillOf, sameTo}
+use Rattle.global_data.specs.PassLaws.{Passing, passing-new, passing-lt, passing-skip, passing-more, passing-long}
 use Rattle.global_data.proofs.GlobalData as row
 use Rattle.process.specs.Fields.{withEstimate}
 use Rattle.process.specs.Steps.{noProcess}
@@ -37,7 +35,7 @@ use Rattle.run.specs.Turns.{ends-by, goes, Low, turn-sizes, turn-round, 
 use Rattle.run.specs.Turns.{slot-low, word-low, number-low, message-low, start-round, close-started}
 use Rattle.run.specs.Turns.{refuses-start, refuses-send, refuses-arrive, refuses-close, refuses-crash}
 use Rattle.run.specs.Turns.{refuses-suspect, effect-start, effect-crash, effect-suspect, effect-send}
-use Rattle.run.specs.Turns.{effect-receive, effect-adopt, rowsIn, Closes, closes}
+use Rattle.run.specs.Turns.{effect-receive, effect-adopt, rowsIn, row-at, Closes, closes}
 use Rattle.run.specs.Turns.{kept-start, kept-send, kept-arrive, kept-crash, kept-suspect}
 use Rattle.run.proofs.run_bytes.Statement.{statement}
 use Rattle.run.proofs.run_bytes.Tie as tie
@@ -49,11 +47,13 @@ abbrev μ-loop : tie.MeasureT-loop
 μ-loop schedule budget s rows₀ k₀ rows k = length (s .sent) - k
 
 abbrev Inv-loop3 : tie.InvT-loop3
-Inv-loop3 schedule budget s rows k at accepted from before n t crashed a p k′ r next old g₀ alike₀ left₀ g alike left =
-    (left < 2 ^ 16) × Passing n (removeOf next a) (rowsIn (s .sent) r) old left g alike
+Inv-loop3 schedule budget s rows k at accepted from before n t crashed a p k′ r next old g₀ alike₀ left₀ i₀ g alike
+    left i =
+    (i % 16 ≡ r) × Passing n (removeOf next a) (rowsIn (s .sent) r) old (i / 16) left g alike
 
 abbrev μ-loop3 : tie.MeasureT-loop3
-μ-loop3 schedule budget s rows k at accepted from before n t crashed a p k′ r next old g₀ alike₀ left₀ g alike left =
+μ-loop3 schedule budget s rows k at accepted from before n t crashed a p k′ r next old g₀ alike₀ left₀ i₀ g alike left
+    i =
     left
 
 abbrev Inv-loop2 : tie.InvT-loop2
@@ -136,12 +136,11 @@ abbrev closedAt : tie.After-finish Inv-loop μ-loop Inv-loop3 μ-loop3 Inv-loop2
     → tie.After-round-index2 Inv-loop μ-loop Inv-loop3 μ-loop3 Inv-loop2 μ-loop2
 closedAt c = roundOf (c .before .before .before)
 
--- the row of y, one of the others, in the round of the close
-row-slot : (c : tie.After-rest Inv-loop μ-loop Inv-loop3 μ-loop3 Inv-loop2 μ-loop2)
-    → c .before .lowest .result * 16 + roundOf (c .before .before .before .before) .round-index2 .result < 256
+-- the row that the pass has come to, in the round of the close
+row-slot : (c : tie.In-loop3 Inv-loop μ-loop Inv-loop3 μ-loop3 Inv-loop2 μ-loop2) → c .before .loop3 .i < 256
 row-slot c =
-    slot-low _ _ (c .before .lowest .ensures .1)
-    (roundOf (c .before .before .before .before) .round-index2 .ensures .1)
+    let v = c .before .loop3 .inv in
+    omega (arith, passing-lt _ _ _ _ _ _ _ _ (v .1) (c .loop3-test .taken))
 
 close-slot : (c : tie.After-round-index3 Inv-loop μ-loop Inv-loop3 μ-loop3 Inv-loop2 μ-loop2)
     → closedAt (c .before .before .before .before) .before .before .before .before .before .e5 .given .0 .0 * 16 + c
@@ -348,53 +347,43 @@ close-sizes c = turn-sizes (turn (c .before .before .before .before .before .bef
 
 -- ---- its pass
 loop3-holds : tie.Need-loop3-holds Inv-loop μ-loop Inv-loop3 μ-loop3 Inv-loop2 μ-loop2
-loop3-holds c = (
-  search needs,
-  rw (c .remove2 .ensures) (passing-new _ _ _ _ (c .before .old-estimate .ensures .1)),
-)
+loop3-holds c =
+    let r = roundOf c .round-index2 in
+    let z : r .result / 16 ≡ 0 = omega (arith, r .ensures .1) in
+    (omega (arith, r .ensures .1), rw z (passing-new _ _ _ _ _ (search needs) (c .remove2 .ensures)))
 
--- those left but the lowest are a smaller number
-pass-less : (c : tie.After-rest Inv-loop μ-loop Inv-loop3 μ-loop3 Inv-loop2 μ-loop2)
-    → c .rest .result < c .before .before .before .loop3 .left
-pass-less c =
-    let l = c .before .before .before .loop3 in
-    rw (c .rest .ensures) (rest-less (l .left) (search needs) (l .inv .0))
+fill-words-requires : tie.Need-fill-words-requires Inv-loop μ-loop Inv-loop3 μ-loop3 Inv-loop2 μ-loop2
+fill-words-requires c κs =
+    let l = c .before .before .before .before in
+    passing-long _ _ _ _ _ _ _ _ (l .loop3 .inv .1) (l .before .before .old-estimate .ensures .1)
 
 loop3-less : tie.Need-loop3-less Inv-loop μ-loop Inv-loop3 μ-loop3 Inv-loop2 μ-loop2
-loop3-less c = pass-less (c .before .before .before .before .before)
+loop3-less c = omega (arith, c .before .loop3-test .taken)
 
--- a turn of the pass: the row of the lowest is filled in and, unless one before it differed, compared
-pass-more : (c : tie.After-fill-words Inv-loop μ-loop Inv-loop3 μ-loop3 Inv-loop2 μ-loop2) (still : Bool)
-    → let t = c .before .before .before in
-    let l = t .before .before .before .loop3 in
-    let b = t .before .before .before .before in
-    let s = roundOf b .before .before .before .before .before .before .before .before .before .before .before .before
-    .before .before .before .loop2 .s in
-    let rows = rowsIn (s .sent) (roundOf b .round-index2 .result) in
-    let old = b .before .old-estimate .result in
-    still ≡ (l .alike && sameTo (s .n) (rows (t .before .lowest .result)) old)
-    → (t .rest .result < 2 ^ 16)
-    × Passing (s .n)
-    (removeOf (b .before .before .next .result) (roundOf b .before .before .before .before .before .e5 .given .0 .0))
-    rows old (t .rest .result)
-    (record { present = c .fill-words .result; values = c .fill-words .last .0 }) still
-pass-more c still e =
-    let t = c .before .before .before in
-    let l = t .before .before .before .loop3 in (
-      lt-trans (pass-less t) (l .inv .0),
-      passing-more _ _ _ _ (l .left) (l .g) (l .alike) (search needs) (l .inv .0) (l .inv .1) _ _ _ _
-          (t .before .lowest .ensures .0) (t .rest .ensures) (sym (c .fill-words .ensures)) e,
-    )
-
+-- a turn of the pass: the row of the next process is filled in where it is a member and, unless one before it
+-- differed, compared
 loop3-again : tie.Need-loop3-again Inv-loop μ-loop Inv-loop3 μ-loop3 Inv-loop2 μ-loop2
 loop3-again c =
-    pass-more (c .before .before) _ (c .same .ensures ∙ sym (and-on-l _ _ (c .before .if9 .taken)))
-
-loop3-less-2 : tie.Need-loop3-less-2 Inv-loop μ-loop Inv-loop3 μ-loop3 Inv-loop2 μ-loop2
-loop3-less-2 c = pass-less (c .before .before .before .before)
-
-loop3-again-2 : tie.Need-loop3-again-2 Inv-loop μ-loop Inv-loop3 μ-loop3 Inv-loop2 μ-loop2
-loop3-again-2 c = pass-more (c .before) _ (c .if9 .left ∙ sym (and-off-l _ _ (c .if9 .left)))
+    let l = c .before .before .loop3 in
+    let v = l .inv .1 in
+    let z = c .before .loop3-test .taken in
+    let b = c .before .before .before in
+    let s = roundOf b .before .before .before .before .before .before .before .before .before .before .before .before
+    .before .before .before .loop2 .s in
+    let e = row-at (s .sent) (roundOf b .round-index2 .result) (l .i) (l .inv .0) in
+    let next : (l .i + 16) / 16 ≡ l .i / 16 + 1 = omega arith in (
+      omega (arith, l .inv .0),
+      rw next
+          (⊎-elim
+          (λ w.
+          passing-more _ _ _ _ _ _ _ _ v z (w .0 .taken) _ _ (w .6 ∙ sym (w .3 .ensures) ∙ ap (fillOf _) e)
+          (w .7 ∙ w .5 .ensures ∙ ap (λ f. sameTo (s .n) f (b .before .old-estimate .result)) e ∙ sym (and-on-r _ _ (w .4 .taken))))
+          (⊎-elim
+          (λ w.
+          passing-more _ _ _ _ _ _ _ _ v z (w .0 .taken) _ _ (w .5 ∙ sym (w .3 .ensures) ∙ ap (fillOf _) e)
+          (w .6 ∙ w .4 .left ∙ sym (and-off-r _ _ (w .4 .left))))
+          (λ w. rw (w .1, w .2) (passing-skip _ _ _ _ _ _ _ _ v z (w .0 .left)))) (c .if9 .came)),
+    )
 
 -- ---- its end
 finish-requires : tie.Need-finish-requires Inv-loop μ-loop Inv-loop3 μ-loop3 Inv-loop2 μ-loop2
@@ -420,7 +409,7 @@ closed c =
     let l = c .before .before .loop3 in
     let b = c .before .before .before in
     let z : l .left ≡ 0 = search needs in
-    closes _ _ _ _ _ _ _ _ _ (roundOf b .round-index2 .ensures .0) (b .before .before .next .ensures)
+    closes _ _ _ _ _ _ _ _ _ _ (roundOf b .round-index2 .ensures .0) (b .before .before .next .ensures)
     (rw (z, b .before .old-estimate .ensures .0) at (l .inv .1)) (c .finish .ensures)
 
 loop2-again-5 : tie.Need-loop2-again-5 Inv-loop μ-loop Inv-loop3 μ-loop3 Inv-loop2 μ-loop2
@@ -430,7 +419,7 @@ loop2-again-5 c =
     goes _ _ _ _ _ _ _ _ (event (r .before .before .before .before .before .before .before) _
     (r .before .before .before .before .before .e5 .given .1)) _
     (r .before .before .close-check .ensures ∙ sym (refuses-close _ _)) (r .before .if8 .left) _
-    (closed (c .before .before .before) .decides (sym (c .before .has-decided .ensures) ∙ c .if10 .taken)) _
+    (closed (c .before .before .before) .decides (sym (c .before .has-decided .ensures) ∙ c .if11 .taken)) _
     (closed (c .before .before .before) .closing)
 
 round-index-requires-3 : tie.Need-round-index-requires-3 Inv-loop μ-loop Inv-loop3 μ-loop3 Inv-loop2 μ-loop2
@@ -438,7 +427,7 @@ unfolding processAt
 round-index-requires-3 c κs =
     let w = turn (closedAt (c .before .before .before) .before .before .before .before .before .before .before
     .before .before .before) in
-    closed (c .before .before .before) .round (sym (c .before .has-decided .ensures) ∙ c .if10 .left)
+    closed (c .before .before .before) .round (sym (c .before .has-decided .ensures) ∙ c .if11 .left)
     (turn-sizes w .1) (turn-round w _)
 
 loop2-again-6 : tie.Need-loop2-again-6 Inv-loop μ-loop Inv-loop3 μ-loop3 Inv-loop2 μ-loop2
@@ -449,7 +438,7 @@ loop2-again-6 c =
     (r .before .before .before .before .before .e5 .given .1)) _
     (r .before .before .close-check .ensures ∙ sym (refuses-close _ _)) (r .before .if8 .left) _
     (closed (c .before .before .before .before) .opens
-    (sym (c .before .before .has-decided .ensures) ∙ c .before .if10 .left) _ (c .round-index3 .ensures .0)) _
+    (sym (c .before .before .has-decided .ensures) ∙ c .before .if11 .left) _ (c .round-index3 .ensures .0)) _
     (closed (c .before .before .before .before) .closing)
 
 -- ---- crash
@@ -457,7 +446,7 @@ loop2-again-7 : tie.Need-loop2-again-7 Inv-loop μ-loop Inv-loop3 μ-loop3 Inv-l
 loop2-again-7 c =
     goes _ _ _ _ _ _ _ _ (event (c .before .before .before .before .before .before) _
     (c .before .before .before .before .e6 .given .1)) _
-    (c .before .before .crash-check .ensures ∙ sym (refuses-crash _ _)) (c .before .if11 .left) _
+    (c .before .before .crash-check .ensures ∙ sym (refuses-crash _ _)) (c .before .if12 .left) _
     (effect-crash _ _ _ (c .insert2 .ensures))
     _ (kept-crash _ _ _)
 
@@ -467,7 +456,7 @@ unfolding withProcess processAt
 loop2-again-8 c =
     goes _ _ _ _ _ _ _ _ (event (c .before .before .before .before .before .before .before) _
     (c .before .before .before .before .before .e7 .given .1)) _
-    (c .before .before .suspect-check .ensures ∙ sym (refuses-suspect _ _ _)) (c .before .if12 .left) _
+    (c .before .before .suspect-check .ensures ∙ sym (refuses-suspect _ _ _)) (c .before .if13 .left) _
     (effect-suspect _ _ _ _ (c .suspect .ensures))
     _ (kept-suspect _ _ _ _)
 
@@ -554,12 +543,10 @@ run-bytes-spec =
     (λ c κs. close-round c)
     -- its pass
     (λ c κs. (low-close (c .before .before .before .before), close-round (c .before))) (λ c κs. tt)
-    (λ c κs. low-close (c .before .before .before .before .before .before)) loop3-holds (λ c κs. search needs)
-    (λ c κs. search needs) (λ c. scaled-fits _ 16 _ (c .before .lowest .ensures .1) (lit< tt))
-    (λ c. fits-under w64 _ 256 (row-slot c) tt) (λ c. scaled-fits _ 256 _ (row-slot c) (lit< tt)) (λ c. row-slot c)
-    (λ c κs. c .before .before .before .before .before .loop3 .inv .1 .long)
-    (λ c κs. close-sizes (roundOf (c .before .before .before .before .before .before .before .before)) .0)
-    loop3-less loop3-again loop3-less-2 loop3-again-2
+    (λ c κs. low-close (c .before .before .before .before .before .before)) loop3-holds
+    (λ c. scaled-fits _ 256 _ (row-slot (c .before)) (lit< tt)) (λ c. row-slot (c .before)) fill-words-requires
+    (λ c κs. close-sizes (roundOf (c .before .before .before .before .before .before .before)) .0)
+    (λ c. fits-under w64 _ 272 (omega (arith, row-slot (c .before))) tt) loop3-less loop3-again
     -- the process, and its next row
     finish-requires
     (λ c. scaled-fits _ 16 _ (low-close (closedAt (c .before) .before .before .before .before)) (lit< tt))
@@ -578,7 +565,7 @@ run-bytes-spec =
     (λ c. c .match2 .keys5) (λ c κs. low-crash c) (λ c κs. tt)
     (λ c. let arm = c .before .before .before .before in
     c .turned-away9 .ensures ∙ ends-by _ _ _ _ _ _ _ _ (event (arm .before .before) _ (arm .e6 .given .1)) _
-    (c .before .before .crash-check .ensures ∙ sym (refuses-crash _ _)) (c .before .if11 .taken))
+    (c .before .before .crash-check .ensures ∙ sym (refuses-crash _ _)) (c .before .if12 .taken))
     (λ c κs. low-crash (c .before .before))
     (λ c. turn-less (turn (c .before .before .before .before .before .before .before .before .before))) loop2-again-7
     -- suspicion
@@ -586,7 +573,7 @@ run-bytes-spec =
     (λ c κs. low-suspect (c .before)) (λ c κs. tt)
     (λ c. let arm = c .before .before .before .before .before in
     c .turned-away10 .ensures ∙ ends-by _ _ _ _ _ _ _ _ (event (arm .before .before) _ (arm .e7 .given .1)) _
-    (c .before .before .suspect-check .ensures ∙ sym (refuses-suspect _ _ _)) (c .before .if12 .taken))
+    (c .before .before .suspect-check .ensures ∙ sym (refuses-suspect _ _ _)) (c .before .if13 .taken))
     (λ c κs. low-suspect (c .before .before .before) .1)
     (λ c. scaled-fits _ 16 _ (low-suspect (c .before .before .before .before) .0) (lit< tt))
     (λ c. low-suspect (c .before .before .before .before) .0)

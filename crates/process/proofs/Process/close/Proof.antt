@@ -1,71 +1,64 @@
 -- `Process::close` is the step: one pass over the peers' rows fills and compares, and `finish` does the rest. The
--- loop's invariant is that of the pass, `Passing`.
+-- loop's invariant is that of the pass, `Passing`: the processes below y are seen.
 use mathlib.Core.Path.{_≡_, sym, _∙_}
-use mathlib.Core.Bool.{Bool}
-use Prim.Native.Nat.{_^_, _<_}
-use native.Mathlib.Nat.{lt-trans}
-use borrow.Author.Needs.{needs}
+use mathlib.Core.Logic.{⊎-elim}
+use mir.Syntax.{w64}
+use Prim.Native.Nat.{_<_}
+use native.Mathlib.Omega.{arith}
+use lib.Dec.{lit<}
+use borrow.Author.Needs.{needs, fits-under, scaled-fits}
 use Rattle.sets.specs.Set.{removeOf}
-use Rattle.sets.specs.LowestLaws.{rest-less}
-use Rattle.sets.specs.Truth.{_&&_}
-use Rattle.sets.specs.TruthLaws.{and-on-l, and-off-l}
-use Rattle.global_data.specs.GlobalData.{sameTo, rowsOf}
-use Rattle.global_data.specs.PassLaws.{Passing, passing-new, passing-more}
+use Rattle.sets.specs.TruthLaws.{and-on-r, and-off-r}
+use Rattle.global_data.specs.GlobalData.{rowsOf}
+use Rattle.global_data.specs.PassLaws.{Passing, passing-new, passing-lt, passing-skip, passing-more, passing-long}
 use Rattle.process.specs.ClosingLaws.{close-passed}
 use Rattle.process.proofs.Process.close.Statement.{statement}
 use Rattle.process.proofs.Process.close.Tie as tie
 
 abbrev Inv-loop : tie.InvT-loop
-Inv-loop self n t a rows next old g₀ alike₀ left₀ g alike left =
-    (left < 2 ^ 16) × Passing n (removeOf next a) (rowsOf rows) old left g alike
+Inv-loop self n t a rows next old g₀ alike₀ left₀ y₀ g alike left y =
+    Passing n (removeOf next a) (rowsOf rows) old y left g alike
 
 abbrev μ-loop : tie.MeasureT-loop
-μ-loop self n t a rows next old g₀ alike₀ left₀ g alike left = left
+μ-loop self n t a rows next old g₀ alike₀ left₀ y₀ g alike left y = left
 
 loop-holds : tie.Need-loop-holds Inv-loop μ-loop
-loop-holds c = (
-  search needs,
-  rw (c .remove .ensures) (passing-new _ _ _ _ (c .before .old-estimate .ensures .1)),
-)
+loop-holds c = passing-new _ _ _ _ _ (search needs) (c .remove .ensures)
 
--- those left but the lowest are a smaller number
-less : (c : tie.After-rest Inv-loop μ-loop) → c .rest .result < c .before .before .before .loop .left
-less c =
-    let l = c .before .before .before .loop in
-    rw (c .rest .ensures) (rest-less (l .left) (search needs) (l .inv .0))
+-- in the loop a member is left, so that not all are seen
+low : (c : tie.In-loop Inv-loop μ-loop) → c .before .loop .y < 16
+low c = passing-lt _ _ _ _ _ _ _ _ (c .before .loop .inv) (c .loop-test .taken)
 
--- a turn: the row of the lowest is filled in and, unless one before it differed, compared
-more : (c : tie.After-fill-words Inv-loop μ-loop) (still : Bool)
-    → let t = c .before .before .before in
-    let l = t .before .before .before .loop in
-    let b = t .before .before .before .before in
-    let x = b .before .before .before .args in
-    let old = b .before .old-estimate .result in
-    still ≡ (l .alike && sameTo (x .n) (rowsOf (x .t5) (t .before .lowest .result)) old)
-    → (t .rest .result < 2 ^ 16)
-    × Passing (x .n) (removeOf (b .before .before .next .result) (x .a)) (rowsOf (x .t5)) old (t .rest .result)
-    (record { present = c .fill-words .result; values = c .fill-words .last .0 }) still
-more c still e =
-    let t = c .before .before .before in
-    let l = t .before .before .before .loop in (
-      lt-trans (less t) (l .inv .0),
-      passing-more _ _ _ _ (l .left) (l .g) (l .alike) (search needs) (l .inv .0) (l .inv .1) _ _ _ _
-          (t .before .lowest .ensures .0) (t .rest .ensures) (sym (c .fill-words .ensures)) e,
-    )
+fill-words-requires : tie.Need-fill-words-requires Inv-loop μ-loop
+fill-words-requires c κs =
+    let l = c .before .before .before .before in
+    passing-long _ _ _ _ _ _ _ _ (l .loop .inv) (l .before .before .old-estimate .ensures .1)
 
+loop-less : tie.Need-loop-less Inv-loop μ-loop
+loop-less c = omega (arith, c .before .loop-test .taken)
+
+-- a turn: the row of the next process is filled in where it is a member and, unless one before it differed, compared
 loop-again : tie.Need-loop-again Inv-loop μ-loop
-loop-again c = more (c .before .before) _ (c .same .ensures ∙ sym (and-on-l _ _ (c .before .if1 .taken)))
-
-loop-again-2 : tie.Need-loop-again-2 Inv-loop μ-loop
-loop-again-2 c = more (c .before) _ (c .if1 .left ∙ sym (and-off-l _ _ (c .if1 .left)))
+loop-again c =
+    let v = c .before .before .loop .inv in
+    let z = c .before .loop-test .taken in
+    ⊎-elim
+    (λ w.
+    passing-more _ _ _ _ _ _ _ _ v z (w .0 .taken) _ _ (w .6 ∙ sym (w .3 .ensures))
+    (w .7 ∙ w .5 .ensures ∙ sym (and-on-r _ _ (w .4 .taken))))
+    (⊎-elim
+    (λ w.
+    passing-more _ _ _ _ _ _ _ _ v z (w .0 .taken) _ _ (w .5 ∙ sym (w .3 .ensures))
+    (w .6 ∙ w .4 .left ∙ sym (and-off-r _ _ (w .4 .left))))
+    (λ w. rw (w .1, w .2) (passing-skip _ _ _ _ _ _ _ _ v z (w .0 .left)))) (c .if1 .came)
 
 returns : tie.Need-returns Inv-loop μ-loop
 returns c =
     let l = c .before .before .before .loop in
     let b = c .before .before .before .before in
     let z : l .left ≡ 0 = search needs in
-    close-passed _ _ _ _ _ _ _ _ _ _ (b .before .before .next .ensures)
-    (rw (z, b .before .old-estimate .ensures .0) at (l .inv .1)) (c .before .finish .ensures)
+    close-passed _ _ _ _ _ _ _ _ _ _ _ (b .before .before .next .ensures)
+    (rw (z, b .before .old-estimate .ensures .0) at (l .inv)) (c .before .finish .ensures)
 
 finish-requires : tie.Need-finish-requires Inv-loop μ-loop
 finish-requires c κs =
@@ -74,7 +67,6 @@ finish-requires c κs =
 
 pub close-spec : {M : Type 1} → statement M
 close-spec = tie.close (tie.spec Inv-loop μ-loop (λ c κs. search needs) (λ c κs. search needs) (λ c κs. search needs)
-    loop-holds (λ c κs. search needs) (λ c κs. search needs) (λ c. search needs) (λ c. search needs)
-    (λ c κs. c .before .before .before .before .before .loop .inv .1 .long) (λ c κs. search needs)
-    (λ c. less (c .before .before .before .before .before)) loop-again
-    (λ c. less (c .before .before .before .before)) loop-again-2 finish-requires returns)
+    loop-holds (λ c. scaled-fits _ 16 _ (low (c .before)) (lit< tt)) (λ c. low (c .before)) fill-words-requires
+    (λ c κs. search needs) (λ c. fits-under w64 _ 17 (omega (arith, low (c .before))) tt) loop-less loop-again
+    finish-requires returns)

@@ -3,9 +3,9 @@
 -- the rest is the definitions with their parts named.
 use mathlib.Core.Path.{_≡_, refl, sym, ap, _∙_}
 use mathlib.Core.Logic.{_≢_}
-use mathlib.Core.List.{List}
+use mathlib.Core.List.{List, [], _∷_}
 use mathlib.Core.Bool.{Bool, true, false}
-use Prim.Native.Nat.{ℕ, _+_, _-_, _*_, _/_, _%_, _≤_, _<_}
+use Prim.Native.Nat.{ℕ, zero, suc, _+_, _-_, _*_, _/_, _%_, _≤_, _<_}
 use native.Mathlib.Omega.{arith}
 use lib.ListN.{length, getD, set, take, drop, length-take, length-drop}
 use lib.Seq.{drop-drop}
@@ -341,6 +341,31 @@ rowsIn sent r y = getD sent (y * 16 + r) noData
 -- the one at i, which is of that round
 pub row-at : (sent : List GlobalData) (r i : ℕ) → i % 16 ≡ r → getD sent i noData ≡ rowsIn sent r (i / 16)
 row-at sent r i e = ap (λ (k : ℕ). getD sent k noData) (omega arith)
+
+-- the words of g, with those marks
+abbrev pub marked : ℕ → GlobalData → GlobalData
+marked m g = record { present = m; values = g .values }
+
+-- a row that is stored whole, and then its marks
+remarked : (l : List GlobalData) (j m : ℕ) (g : GlobalData)
+    → set (set l j g) j (marked m (getD (set l j g) j noData)) ≡ set l j (marked m g)
+remarked [] j m g = refl
+remarked (x ∷ l) zero m g = refl
+remarked (x ∷ l) (suc j) m g = ap (λ (r : List GlobalData). x ∷ r) (remarked l j m g)
+
+-- a has opened a round as p, and its row was stored so
+pub opened-marked : (s : Bench) (a i m : ℕ) (g : GlobalData) (p : Process)
+    → record {
+      n = s .n;
+      t = s .t;
+      crashed = s .crashed;
+      processes = set (s .processes) a (withEstimate (marked m g) p);
+      sent =
+          set (set (s .sent) (a * 16 + i) g) (a * 16 + i)
+          (marked m (getD (set (s .sent) (a * 16 + i) g) (a * 16 + i) noData));
+      in_transit = s .in_transit;
+    } ≡ openedAt s a i (withEstimate (marked m g) p)
+opened-marked s a i m g p = rw (remarked (s .sent) (a * 16 + i) m g)
 
 -- ---- the closing: of a close it is the new one, and any other event keeps the one before
 module _ (c : Closing) (s : Bench) where

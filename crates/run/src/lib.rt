@@ -171,15 +171,14 @@ pub fn run_bytes(bench: Bench, schedule: &[u8], budget: u32) -> Ended
                     // compared with the old estimate. `left` has their bits from the process on whose row is at i
                     let old = p.old_estimate();
                     let mut g = old;
+                    let mut marks = old.present;
                     let mut alike = true;
                     let mut left = sets::remove(next, a);
                     let mut i = r;
                     while left != 0 {
                         if left % 2 == 1 {
                             let row = s.sent[i];
-                            let marks = g.present;
-                            let more = fill_words(&mut g.values, marks, row);
-                            g.present = more;
+                            marks = fill_words(&mut g.values, marks, row);
                             if alike {
                                 alike = row.same(old, n);
                             }
@@ -189,7 +188,10 @@ pub fn run_bytes(bench: Bench, schedule: &[u8], budget: u32) -> Ended
                     }
                     let c = p.finish(n, t, a, next, alike);
                     let mut q = c.process;
+                    // g has the words, and the marks are stored after it: g whole, with marks just stored, would be
+                    // read only once they are in memory
                     q.estimate = g;
+                    q.estimate.present = marks;
                     closing = c.closing;
                     s.processes[a] = q;
                     if q.has_decided() {
@@ -197,6 +199,7 @@ pub fn run_bytes(bench: Bench, schedule: &[u8], budget: u32) -> Ended
                     }
                     let opened = round_index(q.round);
                     s.sent[a * 16 + opened] = g;
+                    s.sent[a * 16 + opened].present = marks;
                     continue;
                 }
                 Event::Crash { process: a } => {

@@ -2,7 +2,7 @@
 -- The second is the run: the bench is sound, and the run from here on gives what the whole run gives
 -- (`Running`). A turn is one law of `Turns`: each event's check and effect are those of the definitions on the parts
 -- that the code reads and stores. The third is the pass of a close over the rows of its round (`Passing`).
-use mathlib.Core.Path.{_≡_, refl, sym, ap, _∙_}
+use mathlib.Core.Path.{_≡_, refl, sym, ap, ap₂, _∙_}
 use mathlib.Core.Logic.{⊎-elim}
 use mathlib.Core.Bool.{true}
 use mir.Syntax.{w64}
@@ -35,7 +35,8 @@ use Rattle.run.specs.Turns.{ends-by, goes, Low, turn-sizes, turn-round, 
 use Rattle.run.specs.Turns.{slot-low, word-low, number-low, message-low, start-round, close-started}
 use Rattle.run.specs.Turns.{refuses-start, refuses-send, refuses-arrive, refuses-close, refuses-crash}
 use Rattle.run.specs.Turns.{refuses-suspect, effect-start, effect-crash, effect-suspect, effect-send}
-use Rattle.run.specs.Turns.{effect-receive, effect-adopt, rowsIn, row-at, Closes, closes}
+use Rattle.run.specs.Turns.{effect-receive, effect-adopt, rowsIn, row-at, marked, opened-marked, Closes}
+use Rattle.run.specs.Turns.{closes}
 use Rattle.run.specs.Turns.{kept-start, kept-send, kept-arrive, kept-crash, kept-suspect}
 use Rattle.run.proofs.run_bytes.Statement.{statement}
 use Rattle.run.proofs.run_bytes.Tie as tie
@@ -47,13 +48,13 @@ abbrev μ-loop : tie.MeasureT-loop
 μ-loop schedule budget s rows₀ k₀ rows k = length (s .sent) - k
 
 abbrev Inv-loop3 : tie.InvT-loop3
-Inv-loop3 schedule budget s rows k at accepted from before n t crashed a p k′ r next old g₀ alike₀ left₀ i₀ g alike
-    left i =
-    (i % 16 ≡ r) × Passing n (removeOf next a) (rowsIn (s .sent) r) old (i / 16) left g alike
+Inv-loop3 schedule budget s rows k at accepted from before n t crashed a p k′ r next old g₀ marks₀ alike₀ left₀ i₀ g
+    marks alike left i =
+    (i % 16 ≡ r) × Passing n (removeOf next a) (rowsIn (s .sent) r) old (i / 16) left (marked marks g) alike
 
 abbrev μ-loop3 : tie.MeasureT-loop3
-μ-loop3 schedule budget s rows k at accepted from before n t crashed a p k′ r next old g₀ alike₀ left₀ i₀ g alike left
-    i =
+μ-loop3 schedule budget s rows k at accepted from before n t crashed a p k′ r next old g₀ marks₀ alike₀ left₀ i₀ g marks
+    alike left i =
     left
 
 abbrev Inv-loop2 : tie.InvT-loop2
@@ -143,10 +144,10 @@ row-slot c =
     omega (arith, passing-lt _ _ _ _ _ _ _ _ (v .1) (c .loop3-test .taken))
 
 close-slot : (c : tie.After-round-index3 Inv-loop μ-loop Inv-loop3 μ-loop3 Inv-loop2 μ-loop2)
-    → closedAt (c .before .before .before .before) .before .before .before .before .before .e5 .given .0 .0 * 16 + c
+    → closedAt (c .before .before .before .before .before) .before .before .before .before .before .e5 .given .0 .0 * 16 + c
     .round-index3 .result < 256
 close-slot c =
-    slot-low _ _ (low-close (closedAt (c .before .before .before .before) .before .before .before .before))
+    slot-low _ _ (low-close (closedAt (c .before .before .before .before .before) .before .before .before .before))
     (c .round-index3 .ensures .1)
 
 low-crash : (c : tie.After-known-told8 Inv-loop μ-loop Inv-loop3 μ-loop3 Inv-loop2 μ-loop2)
@@ -376,13 +377,16 @@ loop3-again c =
       rw next
           (⊎-elim
           (λ w.
-          passing-more _ _ _ _ _ _ _ _ v z (w .0 .taken) _ _ (w .6 ∙ sym (w .3 .ensures) ∙ ap (fillOf _) e)
-          (w .7 ∙ w .5 .ensures ∙ ap (λ f. sameTo (s .n) f (b .before .old-estimate .result)) e ∙ sym (and-on-r _ _ (w .4 .taken))))
+          passing-more _ _ _ _ _ _ _ _ v z (w .0 .taken) _ _
+          (ap₂ marked (w .7) (w .6) ∙ sym (w .3 .ensures) ∙ ap (fillOf _) e)
+          (w .8 ∙ w .5 .ensures ∙ ap (λ f. sameTo (s .n) f (b .before .old-estimate .result)) e
+          ∙ sym (and-on-r _ _ (w .4 .taken))))
           (⊎-elim
           (λ w.
-          passing-more _ _ _ _ _ _ _ _ v z (w .0 .taken) _ _ (w .5 ∙ sym (w .3 .ensures) ∙ ap (fillOf _) e)
-          (w .6 ∙ w .4 .left ∙ sym (and-off-r _ _ (w .4 .left))))
-          (λ w. rw (w .1, w .2) (passing-skip _ _ _ _ _ _ _ _ v z (w .0 .left)))) (c .if9 .came)),
+          passing-more _ _ _ _ _ _ _ _ v z (w .0 .taken) _ _
+          (ap₂ marked (w .6) (w .5) ∙ sym (w .3 .ensures) ∙ ap (fillOf _) e)
+          (w .7 ∙ w .4 .left ∙ sym (and-off-r _ _ (w .4 .left))))
+          (λ w. rw (w .1, w .2, w .3) (passing-skip _ _ _ _ _ _ _ _ v z (w .0 .left)))) (c .if9 .came)),
     )
 
 -- ---- its end
@@ -403,7 +407,7 @@ closed : (c : tie.After-finish Inv-loop μ-loop Inv-loop3 μ-loop3 Inv-loop2 μ-
     .before .before .loop2 in
     Closes (m .closing) (c .finish .result .closing) (m .s)
     (r .before .before .before .before .before .e5 .given .0 .0)
-    (withEstimate (c .before .before .loop3 .g) (c .finish .result .process))
+    (withEstimate (marked (c .before .before .loop3 .marks) (c .before .before .loop3 .g)) (c .finish .result .process))
 unfolding processAt
 closed c =
     let l = c .before .before .loop3 in
@@ -415,31 +419,38 @@ closed c =
 loop2-again-5 : tie.Need-loop2-again-5 Inv-loop μ-loop Inv-loop3 μ-loop3 Inv-loop2 μ-loop2
 unfolding withProcess processAt
 loop2-again-5 c =
-    let r = closedAt (c .before .before .before) in
+    let r = closedAt (c .before .before .before .before) in
     goes _ _ _ _ _ _ _ _ (event (r .before .before .before .before .before .before .before) _
     (r .before .before .before .before .before .e5 .given .1)) _
     (r .before .before .close-check .ensures ∙ sym (refuses-close _ _)) (r .before .if8 .left) _
-    (closed (c .before .before .before) .decides (sym (c .before .has-decided .ensures) ∙ c .if11 .taken)) _
-    (closed (c .before .before .before) .closing)
+    (closed (c .before .before .before .before) .decides (sym (c .before .has-decided .ensures) ∙ c .if11 .taken)) _
+    (closed (c .before .before .before .before) .closing)
 
 round-index-requires-3 : tie.Need-round-index-requires-3 Inv-loop μ-loop Inv-loop3 μ-loop3 Inv-loop2 μ-loop2
 unfolding processAt
 round-index-requires-3 c κs =
-    let w = turn (closedAt (c .before .before .before) .before .before .before .before .before .before .before
+    let w = turn (closedAt (c .before .before .before .before) .before .before .before .before .before .before .before
     .before .before .before) in
-    closed (c .before .before .before) .round (sym (c .before .has-decided .ensures) ∙ c .if11 .left)
+    closed (c .before .before .before .before) .round (sym (c .before .has-decided .ensures) ∙ c .if11 .left)
     (turn-sizes w .1) (turn-round w _)
 
 loop2-again-6 : tie.Need-loop2-again-6 Inv-loop μ-loop Inv-loop3 μ-loop3 Inv-loop2 μ-loop2
 unfolding processAt
 loop2-again-6 c =
-    let r = closedAt (c .before .before .before .before) in
+    let f = c .before .before .before .before .before .before in
+    let l = f .before .before .loop3 in
+    let r = closedAt f in
+    let b = r .before .before .before .before .before .before .before .before .before .before .before .before .before
+    .before .before .loop2 .s in
     goes _ _ _ _ _ _ _ _ (event (r .before .before .before .before .before .before .before) _
     (r .before .before .before .before .before .e5 .given .1)) _
     (r .before .before .close-check .ensures ∙ sym (refuses-close _ _)) (r .before .if8 .left) _
-    (closed (c .before .before .before .before) .opens
-    (sym (c .before .before .has-decided .ensures) ∙ c .before .if11 .left) _ (c .round-index3 .ensures .0)) _
-    (closed (c .before .before .before .before) .closing)
+    (opened-marked b (r .before .before .before .before .before .e5 .given .0 .0) (c .before .round-index3 .result)
+    (l .marks) (l .g) (f .finish .result .process)
+    ∙ closed f .opens
+    (sym (c .before .before .before .has-decided .ensures) ∙ c .before .before .if11 .left) _
+    (c .before .round-index3 .ensures .0)) _
+    (closed f .closing)
 
 -- ---- crash
 loop2-again-7 : tie.Need-loop2-again-7 Inv-loop μ-loop Inv-loop3 μ-loop3 Inv-loop2 μ-loop2
@@ -549,18 +560,21 @@ run-bytes-spec =
     (λ c. fits-under w64 _ 272 (omega (arith, row-slot (c .before))) tt) loop3-less loop3-again
     -- the process, and its next row
     finish-requires
-    (λ c. scaled-fits _ 16 _ (low-close (closedAt (c .before) .before .before .before .before)) (lit< tt))
-    (λ c. low-close (closedAt (c .before) .before .before .before .before)) (λ c κs. tt)
-    (λ c. turn-less (turn (closedAt
-    (c .before .before .before) .before .before .before .before .before .before .before .before .before .before)))
+    (λ c. scaled-fits _ 16 _ (low-close (closedAt (c .before .before) .before .before .before .before)) (lit< tt))
+    (λ c. low-close (closedAt (c .before .before) .before .before .before .before)) (λ c κs. tt)
+    (λ c. turn-less (turn (closedAt (c .before .before .before .before) .before .before .before .before .before .before
+    .before .before .before .before)))
     loop2-again-5 round-index-requires-3
     (λ c. scaled-fits _ 16 _ (low-close (closedAt
-    (c .before .before .before .before) .before .before .before .before)) (lit< tt))
+    (c .before .before .before .before .before) .before .before .before .before)) (lit< tt))
     (λ c. fits-under w64 _ 256 (close-slot c) tt) (λ c. scaled-fits _ 256 _ (close-slot c) (lit< tt))
     (λ c. close-slot c)
-    (λ c. turn-less (turn (closedAt
-    (c .before .before .before .before) .before .before .before .before .before .before .before .before .before
-    .before))) loop2-again-6
+    (λ c. scaled-fits _ 16 _ (low-close (closedAt
+    (c .before .before .before .before .before) .before .before .before .before)) (lit< tt))
+    (λ c. fits-under w64 _ 256 (close-slot c) tt) (λ c. scaled-fits _ 256 _ (close-slot c) (lit< tt))
+    (λ c. (close-slot c, tt))
+    (λ c. turn-less (turn (closedAt (c .before .before .before .before .before .before) .before .before .before .before
+    .before .before .before .before .before .before))) loop2-again-6
     -- crash
     (λ c. c .match2 .keys5) (λ c κs. low-crash c) (λ c κs. tt)
     (λ c. let arm = c .before .before .before .before in

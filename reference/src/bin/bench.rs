@@ -2,7 +2,7 @@
 //! `bench [repeats]`. The ratio is the proved library's time over the reference's.
 
 use reference::calendar::{self, Entry, Kind, Week};
-use reference::closes::{due, ends};
+use reference::closes::{due, ends, Due};
 use reference::gen::{schedule, schedule_without_crashes, Rng};
 use reference::{gen, proved, Bench, Cause, Closing, Counters};
 use std::hint::black_box;
@@ -95,26 +95,28 @@ fn steps(n: u8, repeats: usize) {
     report(&format!("one record, n {n}"), records, repeats, || each(&ours), || each(&plain));
 }
 
-/// Closes alone: a run of one for each process, less a run of nothing on the same state, which is as much checked and
-/// copied.
+/// Closes alone: a run of an arrival and a close of each process, less a run of the arrival. The state is as much
+/// checked and copied in both; and both change it, without which it is copied sooner.
 fn closes(n: u8, filled: bool, repeats: usize) {
     const TIMES: usize = 500;
-    let (state, closes) = due(n, filled);
-    each_ends(&state, &closes, ends(filled));
-    let whole = (Cause::Done, n as u32, ends(filled).number());
-    let nothing = (Cause::Done, 0, Closing::None.number());
-    let alone = |run: Run| {
-        time_runs(run, TIMES, &state, &closes, whole) - time_runs(run, TIMES, &state, &[], nothing)
-    };
+    let Due { bench: state, arrival, closes } = due(n, filled);
+    let both = [&arrival[..], &closes].concat();
+    each_ends(&state, &arrival, &closes, ends(filled));
+    let whole = (Cause::Done, 1 + n as u32, ends(filled).number());
+    let one = (Cause::Done, 1, Closing::None.number());
+    let alone =
+        |run: Run| time_runs(run, TIMES, &state, &both, whole) - time_runs(run, TIMES, &state, &arrival, one);
     let kind = if filled { "nothing to fill" } else { "all to fill" };
     let name = format!("close, n {n}, {kind}");
     let repeats = MORE_OF_CLOSES * repeats;
     report_times(&name, TIMES * n as usize, repeats, || alone(proved_run), || alone(plain_run));
 }
 
-/// Both answer each of the closes so.
-fn each_ends(state: &Bench, closes: &[u8], closing: Closing) {
+/// Once the estimate has arrived, both answer each of the closes so.
+fn each_ends(state: &Bench, arrival: &[u8], closes: &[u8], closing: Closing) {
     let (mut ours, mut plain, mut tally) = (*state, *state, Counters::default());
+    assert_eq!(proved::step(&mut ours, arrival, &mut tally), (0, Closing::None.number()));
+    assert_eq!(plain.step(arrival), Ok(Closing::None));
     for record in closes.chunks(Bench::RECORD) {
         assert_eq!(proved::step(&mut ours, record, &mut tally), (0, closing.number()));
         assert_eq!(plain.step(record), Ok(closing));

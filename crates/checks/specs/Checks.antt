@@ -5,7 +5,7 @@ use mathlib.Core.Bool.{Bool, true, false, not}
 use Prim.Native.Nat.{ℕ, _≤_}
 use Rattle.sets.specs.Set.{has, sizeOf, emptySet}
 use Rattle.sets.specs.Truth.{_&&_, same, below, choose, check}
-use Rattle.sets.specs.TruthLaws.{and-l, below-on}
+use Rattle.sets.specs.TruthLaws.{and-l, below-on, clash}
 use Rattle.process.specs.declared.Process.{Process}
 use Rattle.process.specs.Steps.{hasDecided, takesPart, dueOf}
 
@@ -32,11 +32,22 @@ crashCheck crashed a t = firstFailed (has crashed a) true true (below (sizeOf cr
 unfoldable pub suspectCheck : ℕ → ℕ → ℕ → ℕ → ℕ
 suspectCheck crashed a m b = firstFailed (has crashed a) (has crashed b && not (has m b)) true true
 
--- what fails check 7 does so whatever is checked after it
-pub first-impossible : (crashed passes8 passes9 : Bool)
-    → firstFailed crashed false passes8 passes9 ≡ firstFailed crashed false false true
-unfolding firstFailed check choose
-first-impossible crashed passes8 passes9 = refl
+-- what passes 6 and 7 is up to what is checked after them
+pub first-possible : (crashed passes7 passes8 passes9 : Bool) → (passes7 && not crashed) ≡ true
+    → firstFailed crashed passes7 passes8 passes9 ≡ firstFailed false true passes8 passes9
+unfolding firstFailed check choose _&&_
+first-possible true true passes8 passes9 e = clash false e refl
+first-possible true false passes8 passes9 e = clash false e refl
+first-possible false true passes8 passes9 e = refl
+first-possible false false passes8 passes9 e = clash false e refl
+
+-- what fails one of them does so whatever is checked after it
+pub first-impossible : (crashed passes7 passes8 passes9 : Bool) → (passes7 && not crashed) ≡ false
+    → firstFailed crashed passes7 passes8 passes9 ≡ firstFailed crashed false false true
+unfolding firstFailed check choose _&&_
+first-impossible true passes7 passes8 passes9 e = refl
+first-impossible false true passes8 passes9 e = clash true refl e
+first-impossible false false passes8 passes9 e = refl
 
 -- a process that takes part has started
 pub takes-started : (p : Process) → takesPart p ≡ true → 1 ≤ p .round

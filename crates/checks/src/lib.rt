@@ -42,8 +42,9 @@ pub fn close_check(crashed: u16, a: usize, p: Process) -> u8
     ensures { λ r. ⌜ r ≡ closeCheck crashed a p ⌝ }
 {
     let out = sets::member(crashed, a);
-    if p.takes_part() {
-        first(out, p.outbox == 0, p.due(a), true)
+    // one test for a close that is due or lacks an arrival, as most are
+    if p.takes_part() & (p.outbox == 0) & !out {
+        first(false, true, p.due(a), true)
     } else {
         first(out, false, false, true)
     }

@@ -235,18 +235,6 @@ impl Process {
         }
     }
 
-    // Step 5 where it does not decide, but for the estimate: the sets move on, and the next round opens.
-    fn advance(mut self, a: usize, next: u16) -> Process
-        requires { ⌜ a < 16 ⌝ }
-        requires { ⌜ (1 ≤ self .round) × (self .round ≤ 16) ⌝ }
-        requires { ⌜ next ≡ nextOf a self ⌝ }
-        ensures { λ r. ⌜ r ≡ advanceOf a (self .estimate) self ⌝ }
-    {
-        self.previous = self.current;
-        self.current = next;
-        self.open_round(a)
-    }
-
     // Steps 4 and 5 but for the estimate, which is filled by one pass over the others' estimates (request C-16). The
     // same pass finds whether none differs from the old one: on such estimates this is the close.
     pub fn finish(self, n: usize, t: usize, a: usize, next: u16, alike: bool) -> Closed
@@ -259,13 +247,20 @@ impl Process {
             → (r .process ≡ withEstimate (self .estimate) (closeOf n t a rows self))
             × (r .closing ≡ closingOf n t a rows self)) ⌝ }
     {
-        let g = self.estimate;
         let closing = self.ending(t, next, alike);
-        let process = if closing.opens_next() {
-            self.advance(a, next)
+        // what changes is set in place: a process that either arm gave would be copied once more
+        let mut process = self;
+        if closing.opens_next() {
+            let others = sets::remove(next, a);
+            process.previous = self.current;
+            process.current = next;
+            process.round = self.round + 1;
+            process.outbox = others;
         } else {
-            self.decide(g, self.owed(n, a))
-        };
+            let others = self.owed(n, a);
+            process.decided = 1;
+            process.outbox = others;
+        }
         Closed { process, closing }
     }
 

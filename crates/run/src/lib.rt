@@ -173,7 +173,7 @@ pub fn run_bytes(bench: Bench, schedule: &[u8], budget: u32) -> Ended
                     let mut g = old;
                     let mut marks = old.present;
                     let mut alike = true;
-                    let mut left = sets::remove(next, a);
+                    let mut left = sets::remove(next, a) as usize;
                     let mut i = r;
                     while left != 0 {
                         if left % 2 == 1 {

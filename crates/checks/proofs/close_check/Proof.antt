@@ -1,37 +1,42 @@
--- By whether it takes part: if not, the close is impossible whether or not it is due.
-use mathlib.Core.Path.{_≡_, sym, _∙_}
-use mathlib.Core.Bool.{true, false}
-use Rattle.sets.specs.Set.{has}
-use Rattle.process.specs.Steps.{takesPart, dueOf}
-use Rattle.sets.specs.Truth.{same}
-use Rattle.sets.specs.TruthLaws.{and-on-l, and-off-l}
-use Rattle.checks.specs.Checks.{closeCheck, first-impossible, takes-started}
+-- By one test for checks 6 and 7: where it fails, whether the close is due does not count.
+use mathlib.Core.Path.{_≡_, refl, sym, ap, _∙_}
+use mathlib.Core.Bool.{true, false, not}
+use mathlib.Core.Bool as core
+use lib.Dec.{eqb}
 use borrow.Author.Needs.{needs}
+use Rattle.sets.specs.Set.{has}
+use Rattle.sets.specs.Tests.{both}
+use Rattle.sets.specs.Truth.{_&&_, same}
+use Rattle.sets.specs.TruthLaws.{and-l}
+use Rattle.process.specs.Steps.{takesPart}
+use Rattle.checks.specs.Checks.{firstFailed, closeCheck, first-possible, first-impossible, takes-started}
 use Rattle.checks.proofs.close_check.Statement.{statement}
 use Rattle.checks.proofs.close_check.Tie as tie
 
+-- the code's test is that of the definitions
+test : (c : tie.After-takes-part)
+    → let x = c .before .before .args in
+    core._&&_ (core._&&_ (c .takes-part .result) (eqb (x .p .outbox) 0)) (not (c .before .member .result))
+    ≡ ((takesPart (x .p) && same (x .p .outbox) 0) && not (has (x .crashed) (x .a)))
+unfolding same
+test c = both (both (c .takes-part .ensures) refl) (ap not (c .before .member .ensures))
+
 due-requires : tie.Need-due-requires
 due-requires c κs =
-    let s = takes-started _ (sym (c .before .before .takes-part .ensures) ∙ c .before .if1 .taken) in
+    let s = takes-started _ (and-l _ _ (and-l _ _ (sym (test (c .before .before)) ∙ c .if1 .taken))) in
     search needs
 
 returns : tie.Need-returns
-unfolding closeCheck same
+unfolding closeCheck
 returns c =
-    let a = c .before .before .before .before .before .before .args in
-    let t : takesPart (a .p) ≡ true =
-    sym (c .before .before .before .before .takes-part .ensures) ∙ c .before .before .before .if1 .taken in
-    cc (and-on-l (takesPart (a .p)) (same (a .p .outbox) 0) t)
+    c .first .ensures ∙ ap (λ d. firstFailed false true d true) (c .before .due .ensures)
+    ∙ sym (first-possible _ _ _ true (sym (test (c .before .before .before .before)) ∙ c .before .before .if1 .taken))
 
 returns-2 : tie.Need-returns-2
-unfolding closeCheck same
+unfolding closeCheck
 returns-2 c =
-    let a = c .before .before .before .before .args in
-    let f : takesPart (a .p) ≡ false = sym (c .before .before .takes-part .ensures) ∙ c .before .if1 .left in
-    cc (
-      and-off-l (takesPart (a .p)) (same (a .p .outbox) 0) f,
-      first-impossible (has (a .crashed) (a .a)) (dueOf (a .a) (a .p)) true,
-    )
+    c .first2 .ensures ∙ ap (λ o. firstFailed o false false true) (c .before .before .before .before .member .ensures)
+    ∙ sym (first-impossible _ _ _ true (sym (test (c .before .before .before)) ∙ c .before .if1 .left))
 
 pub close-check-spec : {M : Type 1} → statement M
 close-check-spec = tie.close (tie.spec (λ c κs. search needs) (λ c κs. search needs) due-requires

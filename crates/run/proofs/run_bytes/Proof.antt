@@ -554,7 +554,7 @@ run-bytes-spec =
     (λ c κs. close-round c)
     -- its pass
     (λ c κs. (low-close (c .before .before .before .before), close-round (c .before))) (λ c κs. tt)
-    (λ c κs. low-close (c .before .before .before .before .before .before)) loop3-holds
+    (λ c κs. low-close (c .before .before .before .before .before .before)) (λ c. search needs) loop3-holds
     (λ c. scaled-fits _ 256 _ (row-slot (c .before)) (lit< tt)) (λ c. row-slot (c .before)) fill-words-requires
     (λ c κs. close-sizes (roundOf (c .before .before .before .before .before .before .before)) .0)
     (λ c. fits-under w64 _ 272 (omega (arith, row-slot (c .before))) tt) loop3-less loop3-again

@@ -1,7 +1,7 @@
 -- Request C-16: one pass over the rows both fills and compares. `one-pass` is the law that it is enough: the filled
 -- global data is the same as the old one and as each row just where each row is the same as the old one.
--- `Passing` is the pass, a process at a time from 0 on: how far it has come, filling and comparing are those of the
--- definitions over the members below.
+-- `Passing` is the pass, a process at a time from 0 on: the members below the one that it has come to are filled in and
+-- compared, by the definitions.
 use mathlib.Core.Path.{_≡_, refl, sym, ap, _∙_}
 use mathlib.Core.Logic.{_≢_, ⊎-elim}
 use mathlib.Core.Bool.{Bool, true, false}

@@ -6,7 +6,7 @@ ghost use Rattle.global_data.specs.GlobalData.{allSame, rowsOf};
 ghost use Rattle.process.specs.Fields.{withEstimate};
 ghost use Rattle.process.specs.Steps.{idleOf, hasDecided, takesPart, openRoundOf, startOf, keeps, receiveOf};
 ghost use Rattle.process.specs.Steps.{arrivedOf, dueOf, nextOf, peersOf, closingOf, opensNext, owedOf};
-ghost use Rattle.process.specs.Steps.{advanceOf, decideOf, closeOf, adoptOf, messageOf, sendOf, suspectOf};
+ghost use Rattle.process.specs.Steps.{decideOf, closeOf, adoptOf, messageOf, sendOf, suspectOf};
 ghost use Rattle.process.specs.ClosingLaws.{closingBy};
 ghost use Rattle.process.specs.Laws.{wordsWith};
 ghost use Rattle.sets.specs.Truth.{choose};

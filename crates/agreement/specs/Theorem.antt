@@ -1,6 +1,6 @@
 -- Demand 3, proved: after the history of any list of calls the bench has every invariant and holds what the history
 -- tells, and each part of the demand is read off that one state.
-use mathlib.Core.Path.{_≡_, sym, ap, _∙_}
+use mathlib.Core.Path.{_≡_, sym, ap, ap₂, _∙_}
 use mathlib.Core.Logic.{_≢_}
 use mathlib.Core.List.{List, [], _∷_, _++_}
 use mathlib.Core.Bool.{true, false}
@@ -11,23 +11,30 @@ use Rattle.sets.specs.Set.{has}
 use Rattle.sets.specs.Laws.{size-count}
 use Rattle.sets.specs.Lists.{count, each, everyIn}
 use Rattle.sets.specs.Truth.{below}
-use Rattle.sets.specs.TruthLaws.{Is, on, off, is}
+use Rattle.sets.specs.TruthLaws.{Is, on, off, is, choose-on, same-mk as number-same}
 use Rattle.global_data.specs.declared.GlobalData.{GlobalData}
 use Rattle.global_data.specs.declared.Entry.the-variants.{Absent, Value}
 use Rattle.global_data.specs.GlobalData.{valueIn, entryOf, sameTo}
 use Rattle.global_data.specs.Laws.{entry-present, entry-absent, value-present, absent-clear, same-mk}
 use Rattle.process.specs.Steps.{hasDecided}
 use Rattle.bench.specs.declared.Shown.the-variants.{Marks, Refused}
+use Rattle.bench.specs.declared.Bench.{Bench}
+use Rattle.bench.specs.declared.Answer.{Answer}
+use Rattle.bench.specs.declared.Carried.{Carried}
 use Rattle.bench.specs.declared.Event.{Event}
 use Rattle.bench.specs.State.{processAt, crashedAt}
 use Rattle.bench.specs.Sound.{opens}
 use Rattle.bench.specs.SoundLaws.{sound-on}
 use Rattle.bench.specs.Refuse.{refusal}
-use Rattle.bench.specs.Calls.{refused, wordAt, showOf, shownIn}
-use Rattle.agreement.specs.statement.History.{Call, history, afterHistory, undecided}
+use Rattle.bench.specs.Calls.{refused, answerOf, openOf, wordAt, showOf, shownIn}
+use Rattle.agreement.specs.statement.History.{Call, afterCalls, formLeft, answers, history, afterHistory, undecided}
 use Rattle.agreement.specs.statement.History.{decidedOn, outcome, isDecided, beforeDecision}
 use Rattle.agreement.specs.statement.History.{startedWith, crashedIn, crashCount, rounds}
+use Rattle.bench.specs.OldRules.{Form, before, now}
+use Rattle.bench.specs.Carry.{carryOf, carryRefusal}
+use Rattle.bench.specs.OldRulesLaws.{refused-now}
 use Rattle.agreement.specs.statement.Demand3.{isKind5, Demand3}
+use Rattle.agreement.specs.statement.Carrying.{plainCall, rewritten, Carrying}
 use Rattle.agreement.specs.histories.Replay.{Next, along, sizes-to, sizes-from, left-is, answers-are}
 use Rattle.agreement.specs.invariants.Safety.{Good}
 use Rattle.agreement.specs.invariants.Agreement.{agree, valid, rounds-crashes}
@@ -39,6 +46,8 @@ use Rattle.agreement.specs.histories.OneEvent.{decision-got, decision-no
 use Rattle.agreement.specs.histories.InvariantsHold.{Along, along-opened, along-next}
 use Rattle.agreement.specs.histories.HistoryMatchesBench.{Told, told-opened, told-next}
 use Rattle.agreement.specs.histories.AbsentCrashed.{Decided, first-opened, first-next, decided-is}
+use Rattle.agreement.specs.histories.PlainStarts.{Starts, starts-opened, starts-next, carry-history}
+use Rattle.agreement.specs.histories.RewrittenCalls.{rewritten-calls, calls-alike, plain-history}
 use Rattle.agreement.specs.histories.GlobalDataCall.{shows-decided, hides-undecided}
 use Rattle.agreement.specs.bridge.RefusedBytes.{refused-events}
 
@@ -47,6 +56,7 @@ record Account (n t : ℕ) (h : List Event) : Type 0 where
   along-it : Along n t h
   told : Told n t h
   first : Decided n t h
+  starts : Starts n t h
 
 account-next : (n t : ℕ) (h : List Event) (e : Event) → Next n t h e → Account n t h → Account n t (h ++ (e ∷ []))
 account-next n t h e N A =
@@ -55,12 +65,18 @@ account-next n t h e N A =
       along-it = F .further;
       told = told-next n t h e N (A .along-it) F (A .told);
       first = first-next n t h e N (A .along-it) F (A .told) (A .first);
+      starts = starts-next n t h e N (A .told) (A .starts);
     }
 
-account : (n t : ℕ) → opens n t ≡ true → (calls : List Call) → Account n t (history n t calls)
-account n t o calls =
-    along n t (Account n t) (account-next n t) calls
-    (record { along-it = along-opened n t o; told = told-opened n t; first = first-opened n t })
+account : (n t : ℕ) → opens n t ≡ true → (f : Form) (calls : List Call) → Account n t (history f n t calls)
+account n t o f calls =
+    along n t (Account n t) (account-next n t) f calls
+    (record {
+      along-it = along-opened n t o;
+      told = told-opened n t;
+      first = first-opened n t;
+      starts = starts-opened n t;
+    })
 
 -- two entries that are present together, with one value
 entry-same : (g g′ : GlobalData) (k : ℕ) → has (g .present) k ≡ has (g′ .present) k
@@ -168,14 +184,14 @@ module _ (n t : ℕ) (h : List Event) (A : Account n t h) where
       (sizes-to n t h (λ m v. m ≤ length out) r)
       (decision-none _ (sym (A .told .outcome-is x) ∙ e))
 
-pub demand3 : (n t : ℕ) (calls : List Call) → opens n t ≡ true → Demand3 n t calls
-demand3 n t calls o =
-    let h = history n t calls in
-    let A = account n t o calls in
-    let L = left-is n t o calls in
+pub demand3 : (f : Form) (n t : ℕ) (calls : List Call) → opens n t ≡ true → Demand3 f n t calls
+demand3 f n t calls o =
+    let h = history f n t calls in
+    let A = account n t o f calls in
+    let L = left-is n t o f calls in
     record {
       bench = L;
-      given = answers-are n t o calls;
+      given = answers-are n t o f calls;
       shows = λ x g out l r e. rw L (shows-of n t h A x g out l r e);
       hides = λ x out l r e. rw L (hides-of n t h A x out l r e);
       agreement = λ x y g g′ l l′. agreement-of n t h A x y g g′;
@@ -184,5 +200,23 @@ demand3 n t calls o =
       last-round = λ x l. last-round-of n t h A x;
       early-round = λ x l. omega (arith, early-round-of n t h A x);
       records = omega (arith, records-of n t h A);
-      quiet-end = λ f. quiet-of n t h A (rw L at f);
+      quiet-end = λ r. quiet-of n t h A (λ bytes b k. refused-now (formLeft f n t calls) _ bytes (rw L at (r bytes b k)));
+      carrying = rw L (carry-history n t h (A .along-it) (A .told) (A .starts));
+    }
+
+carriedAs : Answer → Bench → Carried
+carriedAs a s = record { answer = a; bench = s }
+
+-- ---- carrying a running week over (request C-17): the calls do the same on a new bench, and what they left is accepted
+pub carrying : (n t : ℕ) (calls : List Call) → opens n t ≡ true → everyIn plainCall calls ≡ true → Carrying n t calls
+unfolding afterCalls answers carryOf answerOf carriedAs
+carrying n t calls o p =
+    let A = calls-alike before (openOf n t .bench) calls p in
+    let w = sym (rewritten-calls calls p) in
+    let z = demand3 before n t calls o .carrying ∙ choose-on _ _ _ (plain-history n t before calls p) in
+    record {
+      carries =
+          ap₂ carriedAs
+          (choose-on _ _ _ (number-same (carryRefusal (afterCalls before n t calls)) 0 z)) (A .bench ∙ ap (afterCalls now n t) w);
+      given = A .given ∙ ap (answers now n t) w;
     }

@@ -6,3 +6,5 @@ pub mod OneEvent
 pub mod HistoryMatchesBench
 pub mod AbsentCrashed
 pub mod GlobalDataCall
+pub mod PlainStarts
+pub mod RewrittenCalls

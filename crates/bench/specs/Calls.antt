@@ -1,5 +1,5 @@
 -- The calls (document 01, "The other calls"): open, one record with the tally, run, global data of a process.
--- The list in transit: TransitList.
+-- The list in transit: TransitList. Carrying: Carry.
 use mathlib.Core.List.{List, _++_}
 use mathlib.Core.Bool.{Bool, false, not}
 use Prim.Native.Nat.{ℕ, zero, suc, _+_, _-_}
@@ -46,13 +46,32 @@ openOf n t =
     choose (opens n t) (record { answer = Accepted; bench = openedOf n t })
     (record { answer = Refused (refused 1); bench = openedOf 0 0 })
 
+-- ---- the rules that a bench is stepped by: what any bytes are decoded to, by which number they are refused, what
+-- they do where they are accepted, and how they end a round. The calls are the same by any rules; those before request
+-- C-15 are in OldRules.
+pub record Rules : Type 0 where
+  pub decodes : Bench → List ℕ → Decoded
+  pub refuses : Bench → List ℕ → ℕ
+  pub does : Bench → List ℕ → Bench
+  pub ends : Bench → List ℕ → Closing
+
+abbrev pub rules : Rules
+rules =
+    record { decodes = λ s bytes. decodeOf (s .n) (s .t) bytes; refuses = refusal; does = effectOf; ends = closingIn }
+
 -- ---- one record: a refused one leaves the bench as it is
+abbrev pub afterBy : Rules → Bench → List ℕ → Bench
+afterBy R s bytes = choose (same (R .refuses s bytes) 0) (R .does s bytes) s
+
+abbrev pub stepBy : Rules → Bench → List ℕ → Stepped
+stepBy R s bytes =
+    record { answer = answerOf (R .refuses s bytes); closing = R .ends s bytes; bench = afterBy R s bytes }
+
 unfoldable pub afterRecord : Bench → List ℕ → Bench
-afterRecord s bytes = choose (same (refusal s bytes) 0) (effectOf s bytes) s
+afterRecord s bytes = afterBy rules s bytes
 
 unfoldable pub stepOf : Bench → List ℕ → Stepped
-stepOf s bytes =
-    record { answer = answerOf (refusal s bytes); closing = closingIn s bytes; bench = afterRecord s bytes }
+stepOf s bytes = stepBy rules s bytes
 
 -- ---- the tally: accepted, refused and crashes, each of 32 bits and staying at its largest value
 unfoldable pub more : Bool → ℕ → ℕ
@@ -71,8 +90,11 @@ unfoldable pub crashIn : Decoded → Bool
 crashIn (Got e) = isCrash e
 crashIn (RefusedDecoded r) = false
 
+abbrev pub tallyBy : Rules → Bench → List ℕ → Counters → Counters
+tallyBy R s bytes c = tallied (same (R .refuses s bytes) 0) (crashIn (R .decodes s bytes)) c
+
 unfoldable pub tallyOf : Bench → List ℕ → Counters → Counters
-tallyOf s bytes c = tallied (same (refusal s bytes) 0) (crashIn (decodeOf (s .n) (s .t) bytes)) c
+tallyOf s bytes c = tallyBy rules s bytes c
 
 -- ---- run: until the schedule is empty, the budget spent or a record refused, tested in that order
 unfoldable pub endedOf : Bench → ℕ → Cause → Closing → ℕ → Ended
@@ -81,19 +103,22 @@ endedOf s accepted cause closing taken =
 
 -- with a budget, the bytes not yet taken, what was accepted and taken so far, and the last closing so far.
 -- A last part shorter than 8 bytes is a record of that length.
-unfoldable pub runFrom : ℕ → List ℕ → Bench → ℕ → Closing → ℕ → Ended
-runFrom zero l s accepted closing taken =
+unfoldable pub runFrom : Rules → ℕ → List ℕ → Bench → ℕ → Closing → ℕ → Ended
+runFrom R zero l s accepted closing taken =
     endedOf s accepted (choose (same (length l) 0) Empty Spent) closing taken
-runFrom (suc budget) l s accepted closing taken =
-    let r = refusal s (take 8 l) in
-    let c = lastOf closing (closingIn s (take 8 l)) in
+runFrom R (suc budget) l s accepted closing taken =
+    let r = R .refuses s (take 8 l) in
+    let c = lastOf closing (R .ends s (take 8 l)) in
     choose (same (length l) 0) (endedOf s accepted Empty closing taken)
-    (choose (same r 0) (runFrom budget (drop 8 l) (effectOf s (take 8 l)) (accepted + 1) c (taken + 8))
+    (choose (same r 0) (runFrom R budget (drop 8 l) (R .does s (take 8 l)) (accepted + 1) c (taken + 8))
     (endedOf s accepted (RefusedRun (refused r)) closing taken))
 
 -- a damaged bench is refused first, nothing stepped and the whole schedule given back
+abbrev pub runBy : Rules → ℕ → List ℕ → Bench → Ended
+runBy R budget l s = choose (soundOf s) (runFrom R budget l s 0 None 0) (endedOf s 0 (RefusedRun (refused 2)) None 0)
+
 unfoldable pub runOf : ℕ → List ℕ → Bench → Ended
-runOf budget l s = choose (soundOf s) (runFrom budget l s 0 None 0) (endedOf s 0 (RefusedRun (refused 2)) None 0)
+runOf budget l s = runBy rules budget l s
 
 -- ---- global data of a process (document 01: sheet of a terminal), written to a lent slice:
 -- absent as 0, words past n untouched

@@ -26,7 +26,7 @@ use Rattle.bench.specs.State.{withSent, withTransit, withCrashed, opened
 use Rattle.bench.specs.Sound.{opens, soundData, soundProcess, soundOf}
 use Rattle.bench.specs.Record.{wordOf, usesB, usesR, usesValue, fieldB, fieldR}
 use Rattle.bench.specs.Record.{fieldValue, fields, messageFrom, eventOf, partsOf}
-use Rattle.bench.specs.Record.{readOf, startFits, checkDiet, decodeOf}
+use Rattle.bench.specs.Record.{valueOf, readOf, startFits, checkDiet, decodeOf}
 use Rattle.bench.specs.Refuse.{numberOf, actor, isCrash, passes7, passes8}
 use Rattle.bench.specs.Refuse.{passes9, refuses, refusesDecoded, refusal}
 use Rattle.bench.specs.Effect.{opensRound, rowsAt, sends, arrives, closesAs, effect, effectDecoded, effectOf}
@@ -361,7 +361,7 @@ unfolding bytes startWith start send arrive close crash suspect answersOf closin
     closingOf closingNumber opensNext decidesOf owedOf decideOf advanceOf closeOf adoptOf messageOf sendOf suspectOf
     processAt sentAt transitAt crashedAt withProcess withSent withTransit withCrashed openedOf opens everyIn within
     soundData soundProcess soundOf
-    wordOf oneTo usesB usesR usesValue fieldB fieldR fieldValue fields messageFrom eventOf partsOf readOf startFits
+    wordOf oneTo usesB usesR usesValue fieldB fieldR fieldValue fields messageFrom eventOf partsOf valueOf readOf startFits
     checkDiet decodeOf check numberOf actor isCrash passes7 passes8 passes9 refuses refusesDecoded refusal
     opensRound rowsAt sends arrives closesAs effect effectDecoded effectOf afterRecord
     closingAt closingDecoded closingIn isNone

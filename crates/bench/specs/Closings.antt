@@ -26,13 +26,18 @@ closingAt (Close a) s = closingOf (s .n) (s .t) a (rowsAt s (processAt s a .roun
 closingAt (Crash a) s = None
 closingAt (Suspect a b) s = None
 
-unfoldable pub closingDecoded : Decoded → Bench → Closing
-closingDecoded (Got e) s = closingAt e s
-closingDecoded (Refused r) s = None
+-- of what some bytes are decoded to, with how an event ends a round
+unfoldable pub closingDecoded : (Event → Bench → Closing) → Decoded → Bench → Closing
+closingDecoded ends (Got e) s = ends e s
+closingDecoded ends (Refused r) s = None
 
--- of any bytes: none where they are refused
+-- none where the bytes are refused, by a number that is not 0
+abbrev pub closingUnless : ℕ → Closing → Closing
+closingUnless number c = choose (same number 0) c None
+
+-- of any bytes
 unfoldable pub closingIn : Bench → List ℕ → Closing
-closingIn s bytes = choose (same (refusal s bytes) 0) (closingDecoded (decodeOf (s .n) (s .t) bytes) s) None
+closingIn s bytes = closingUnless (refusal s bytes) (closingDecoded closingAt (decodeOf (s .n) (s .t) bytes) s)
 
 unfoldable pub isNone : Closing → Bool
 isNone c = same (closingNumber c) 0

@@ -49,10 +49,11 @@ effect (Close a) s = closesAs s a (closeOf (s .n) (s .t) a (rowsAt s (processAt 
 effect (Crash a) s = withCrashed s a
 effect (Suspect a b) s = withProcess s a (suspectOf b (processAt s a))
 
-unfoldable pub effectDecoded : Decoded → Bench → Bench
-effectDecoded (Got e) s = effect e s
-effectDecoded (Refused r) s = s
+-- of what some bytes are decoded to, with what an event does
+unfoldable pub effectDecoded : (Event → Bench → Bench) → Decoded → Bench → Bench
+effectDecoded does (Got e) s = does e s
+effectDecoded does (Refused r) s = s
 
 -- of any bytes that are accepted
 unfoldable pub effectOf : Bench → List ℕ → Bench
-effectOf s bytes = effectDecoded (decodeOf (s .n) (s .t) bytes) s
+effectOf s bytes = effectDecoded effect (decodeOf (s .n) (s .t) bytes) s

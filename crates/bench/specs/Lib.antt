@@ -1,5 +1,7 @@
 pub mod CallLaws
 pub mod Calls
+pub mod Carry
+pub mod CarryLaws
 pub mod Cases
 pub mod ClosingLaws
 pub mod Closings
@@ -7,11 +9,14 @@ pub mod DietLaws
 pub mod Effect
 pub mod EveryInLaws
 pub mod ListedLaws
+pub mod OldRules
+pub mod OldRulesLaws
 pub mod OneByOne
 pub mod Record
 pub mod RecordLaws
 pub mod Refuse
 pub mod RefuseLaws
+pub mod RewriteLaws
 pub mod RunLaws
 pub mod Sound
 pub mod SoundLaws

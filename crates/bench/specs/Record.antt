@@ -58,12 +58,14 @@ partsOf n t kind a b r v =
     (choose (fields n t kind a b r v) (Got (eventOf kind (a - 1) (b - 1) r v)) (Refused (record { number = 5 })))
     (Refused (record { number = 4 }))
 
+-- the value of a record's last four bytes
+unfoldable pub valueOf : List ℕ → ℕ
+valueOf l = wordOf (getD l 4 0) (getD l 5 0) (getD l 6 0) (getD l 7 0)
+
 -- any bytes: refusal 3, else by their parts
 unfoldable pub readOf : ℕ → ℕ → List ℕ → Decoded
 readOf n t l =
-    choose (same (length l) 8)
-    (partsOf n t (getD l 0 0) (getD l 1 0) (getD l 2 0) (getD l 3 0)
-    (wordOf (getD l 4 0) (getD l 5 0) (getD l 6 0) (getD l 7 0)))
+    choose (same (length l) 8) (partsOf n t (getD l 0 0) (getD l 1 0) (getD l 2 0) (getD l 3 0) (valueOf l))
     (Refused (record { number = 3 }))
 
 -- the diet portions of a start do not exceed its portions; no other record has any

@@ -25,13 +25,9 @@ use Rattle.bench.specs.declared.Decoded.{Decoded}
 use Rattle.bench.specs.declared.Decoded.the-variants.{Got, Refused}
 use Rattle.bench.specs.Record.{wordOf, usesB, usesR, usesValue, fieldB, fieldR}
 use Rattle.bench.specs.Record.{fieldValue, fields, messageFrom, eventOf, partsOf}
-use Rattle.bench.specs.Record.{readOf, startFits, checkDiet, decodeOf}
+use Rattle.bench.specs.Record.{valueOf, readOf, startFits, checkDiet, decodeOf}
 
--- the value of a record's last four bytes
-unfoldable pub valueOf : List ℕ → ℕ
-valueOf l = wordOf (getD l 4 0) (getD l 5 0) (getD l 6 0) (getD l 7 0)
-
--- its two numbers: portions in the first two bytes, diet portions in the last two
+-- a value's two numbers: portions in the first two bytes, diet portions in the last two
 pub value-parts : (a b c d : ℕ) → a < 256 → b < 256
     → (portionsOf (wordOf a b c d) ≡ a + b * 256) × (dietOf (wordOf a b c d) ≡ c + d * 256)
 unfolding portionsOf dietOf wordOf
@@ -61,7 +57,7 @@ module _ (n t : ℕ) (l : List ℕ) where
 
   read-parts : length l ≡ 8
       → readOf n t l ≡ partsOf n t (getD l 0 0) (getD l 1 0) (getD l 2 0) (getD l 3 0) (valueOf l)
-  unfolding readOf valueOf
+  unfolding readOf
   read-parts h = choose-on _ _ _ (same-mk (length l) 8 h)
 
 -- what an event was decoded from
@@ -98,7 +94,7 @@ outcome n t l = sized (is (same (length l) 8))
     sized (on h) = known (same-on (length l) 8 h) (is (oneTo 6 (getD l 0 0)))
     sized (off h) = refusedBy 3 (omega arith, omega arith) (read-size n t l (same-not (length l) 8 h))
 
-read-from : (n t : ℕ) (l : List ℕ) (e : Event) → readOf n t l ≡ Got e → From n t l e
+pub read-from : (n t : ℕ) (l : List ℕ) (e : Event) → readOf n t l ≡ Got e → From n t l e
 read-from n t l e p = go (outcome n t l)
   where
     go : Outcome n t l → From n t l e
@@ -293,10 +289,13 @@ fields-range n t a b r v =
         let z = below r (t + 2) in
         (pair (z && y) e, message-on t r (and-l z y (and-r q (z && y) (and-r (oneTo n a) (q && (z && y)) e))))
 
-pub decode-range : (n t : ℕ) (l : List ℕ) (e : Event) → decodeOf n t l ≡ Got e → inRange n t e
-decode-range n t l e p =
-    let f = decode-from n t l e p in
+pub read-range : (n t : ℕ) (l : List ℕ) (e : Event) → readOf n t l ≡ Got e → inRange n t e
+read-range n t l e p =
+    let f = read-from n t l e p in
     rw (f .event) (fields-range n t (getD l 1 0) (getD l 2 0) (getD l 3 0) (valueOf l) (getD l 0 0) (f .kind) (f .fit))
+
+pub decode-range : (n t : ℕ) (l : List ℕ) (e : Event) → decodeOf n t l ≡ Got e → inRange n t e
+decode-range n t l e p = read-range n t l e (decode-read n t l e p .0)
 
 -- ---- the bytes of an event
 unfoldable pub bytesOf : ℕ → ℕ → ℕ → ℕ → ℕ → List ℕ

@@ -72,6 +72,10 @@ unfoldable pub refusesDecoded : Decoded → Bench → ℕ
 refusesDecoded (Got e) s = refuses e s
 refusesDecoded (Refused r) s = r .number
 
--- 2 to 9, of any bytes
+-- 2 to 9, of what some bytes are decoded to
+abbrev pub refusalOf : Decoded → Bench → ℕ
+refusalOf d s = check (soundOf s) 2 (refusesDecoded d s)
+
+-- of any bytes
 unfoldable pub refusal : Bench → List ℕ → ℕ
-refusal s bytes = check (soundOf s) 2 (refusesDecoded (decodeOf (s .n) (s .t) bytes) s)
+refusal s bytes = refusalOf (decodeOf (s .n) (s .t) bytes) s

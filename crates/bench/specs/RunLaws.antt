@@ -21,33 +21,33 @@ use Rattle.bench.specs.Sound.{soundOf}
 use Rattle.bench.specs.Refuse.{refusal}
 use Rattle.bench.specs.Effect.{effectOf}
 use Rattle.bench.specs.Closings.{closingIn, lastOf}
-use Rattle.bench.specs.Calls.{refused, afterRecord, endedOf, runFrom, runOf}
+use Rattle.bench.specs.Calls.{refused, rules, afterRecord, endedOf, runFrom, runOf}
 use Rattle.bench.specs.OneByOne.{restOf, recordAt, steps}
 use Rattle.bench.specs.RefuseLaws.{accepted-effect, accepted}
 use Rattle.bench.specs.SoundLaws.{sound-step}
 
 -- ---- the turns of the loop, at any budget, bytes, bench, numbers and closing so far
 module _ (l : List ℕ) (s : Bench) (accepted : ℕ) (c : Closing) (taken : ℕ) where
-  pub run-empty : (budget : ℕ) → length l ≡ 0 → runFrom budget l s accepted c taken ≡ endedOf s accepted Empty c taken
+  pub run-empty : (budget : ℕ) → length l ≡ 0 → runFrom rules budget l s accepted c taken ≡ endedOf s accepted Empty c taken
   unfolding runFrom
   run-empty zero e = ap (λ x. endedOf s accepted x c taken) (choose-on _ _ _ (same-mk _ _ e))
   run-empty (suc budget) e = choose-on _ _ _ (same-mk _ _ e)
 
   pub run-spent : (budget : ℕ) → length l ≢ 0 → budget ≡ 0
-      → runFrom budget l s accepted c taken ≡ endedOf s accepted Spent c taken
+      → runFrom rules budget l s accepted c taken ≡ endedOf s accepted Spent c taken
   unfolding runFrom
   run-spent zero h z = ap (λ x. endedOf s accepted x c taken) (choose-off _ _ _ (same-off _ _ h))
   run-spent (suc budget) h z = absurd (omega arith)
 
   pub run-refused : (budget : ℕ) → length l ≢ 0 → budget ≢ 0 → refusal s (take 8 l) ≢ 0
-      → runFrom budget l s accepted c taken ≡ endedOf s accepted (Refused (refused (refusal s (take 8 l)))) c taken
+      → runFrom rules budget l s accepted c taken ≡ endedOf s accepted (Refused (refused (refusal s (take 8 l)))) c taken
   unfolding runFrom
   run-refused zero h b r = absurd (b refl)
   run-refused (suc budget) h b r = choose-off _ _ _ (same-off _ _ h) ∙ choose-off _ _ _ (same-off _ _ r)
 
   pub run-accepted : (budget : ℕ) → length l ≢ 0 → budget ≢ 0 → refusal s (take 8 l) ≡ 0
-      → runFrom budget l s accepted c taken
-      ≡ runFrom (budget - 1) (drop 8 l) (effectOf s (take 8 l)) (accepted + 1) (lastOf c (closingIn s (take 8 l)))
+      → runFrom rules budget l s accepted c taken
+      ≡ runFrom rules (budget - 1) (drop 8 l) (effectOf s (take 8 l)) (accepted + 1) (lastOf c (closingIn s (take 8 l)))
       (taken + 8)
   unfolding runFrom
   run-accepted zero h b r = absurd (b refl)
@@ -62,7 +62,7 @@ unfolding runOf
 run-damaged budget l s d = choose-off _ _ _ d
 
 pub run-sound : (budget : ℕ) (l : List ℕ) (s : Bench) → soundOf s ≡ true
-    → runOf budget l s ≡ runFrom budget l s 0 None 0
+    → runOf budget l s ≡ runFrom rules budget l s 0 None 0
 unfolding runOf
 run-sound budget l s h = choose-on _ _ _ h
 
@@ -100,7 +100,7 @@ closingTo (suc k) s l c =
 pub record Runs (budget : ℕ) (l : List ℕ) (s : Bench) (accepted : ℕ) (c : Closing) (taken : ℕ) : Type 0 where
   pub k : ℕ
   pub cause : Cause
-  pub gives : runFrom budget l s accepted c taken
+  pub gives : runFrom rules budget l s accepted c taken
       ≡ endedOf (steps k s l) (accepted + k) cause (closingTo k s l c) (taken + 8 * k)
   pub within-budget : k ≤ budget
   pub within-bytes : 8 * k ≤ length l
@@ -109,7 +109,7 @@ pub record Runs (budget : ℕ) (l : List ℕ) (s : Bench) (accepted : ℕ) (c : 
 
 -- it stops at once, with a cause
 stops : (budget : ℕ) (l : List ℕ) (s : Bench) (a : ℕ) (c : Closing) (t : ℕ) (x : Cause)
-    → runFrom budget l s a c t ≡ endedOf s a x c t
+    → runFrom rules budget l s a c t ≡ endedOf s a x c t
     → Why budget l s x
     → Runs budget l s a c t
 unfolding steps restOf closingTo

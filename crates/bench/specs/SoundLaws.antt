@@ -349,14 +349,17 @@ effect-sizes (Close a) s = closes-sizes s a _
 effect-sizes (Crash a) s = record { n = refl; t = refl }
 effect-sizes (Suspect a y) s = record { n = refl; t = refl }
 
--- ---- every record keeps a bench sound, and an opened one is
+-- ---- every event in range, and so every record, keeps a bench sound, and an opened one is
+pub sound-effect : (s : Bench) → soundOf s ≡ true → (e : Event) → inRange (s .n) (s .t) e → soundOf (effect e s) ≡ true
+sound-effect s h e r = sound-mk _ (effect-low s (sound-on s h) e r)
+
 pub sound-step : (s : Bench) (l : List ℕ) → soundOf s ≡ true → soundOf (afterRecord s l) ≡ true
 sound-step s l h = ⊎-elim taken (λ r. rw (refused-keeps s l r) h) (eq-or (refusal s l) 0)
   where
     taken : refusal s l ≡ 0 → soundOf (afterRecord s l) ≡ true
     taken z =
         let w = accepted s l z in
-        rw (w .effects) (sound-mk _ (effect-low s (sound-on s h) (w .event) (w .range)))
+        rw (w .effects) (sound-effect s h (w .event) (w .range))
 
 pub sizes-step : (s : Bench) (l : List ℕ) → SameSizes s (afterRecord s l)
 sizes-step s l = ⊎-elim taken (λ r. rw (refused-keeps s l r) (record { n = refl; t = refl })) (eq-or (refusal s l) 0)

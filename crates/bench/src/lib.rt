@@ -80,6 +80,12 @@ pub struct Opened {
     pub bench: Bench,
 }
 
+// What carrying gives; the bench is as it was in any case.
+pub struct Carried {
+    pub answer: Answer,
+    pub bench: Bench,
+}
+
 // What the call for one record gives. A closing is that of an accepted close, and none of any other record.
 pub struct Stepped {
     pub answer: Answer,

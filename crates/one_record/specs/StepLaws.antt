@@ -26,7 +26,7 @@ use Rattle.bench.specs.Effect.{effectOf}
 use Rattle.bench.specs.Closings.{closingIn, lastOf}
 use Rattle.bench.specs.ClosingLaws.{closing-refused, none-last}
 use Rattle.bench.specs.Calls.{refused, answerOf, afterRecord, stepOf}
-use Rattle.bench.specs.Calls.{tallied, crashIn, tallyOf, endedOf, runFrom, runOf}
+use Rattle.bench.specs.Calls.{rules, tallied, crashIn, tallyOf, endedOf, runFrom, runOf}
 use Rattle.one_record.specs.OneRecord.{recordIn, answerTo, steppedBy, isAccepted, crashByte}
 use Rattle.bench.specs.RunLaws.{run-empty, run-refused, run-accepted, run-damaged, run-sound}
 
@@ -72,14 +72,14 @@ module _ (s : Bench) (l : List ℕ) where
     whole : take 8 l ≡ l
     whole = take-all 8 l (omega arith)
 
-    one : soundOf s ≡ true → steppedBy (runFrom 1 l s 0 None 0) ≡ stepOf s l
+    one : soundOf s ≡ true → steppedBy (runFrom rules 1 l s 0 None 0) ≡ stepOf s l
     unfolding steppedBy answerTo endedOf
     one h = ⊎-elim taken turned (eq-or (refusal s (take 8 l)) 0)
       where
         some : length l ≢ 0
         some z = omega arith
 
-        taken : refusal s (take 8 l) ≡ 0 → steppedBy (runFrom 1 l s 0 None 0) ≡ stepOf s l
+        taken : refusal s (take 8 l) ≡ 0 → steppedBy (runFrom rules 1 l s 0 None 0) ≡ stepOf s l
         taken z =
             rw (
               run-accepted l s 0 None 0 1 some (omega arith) z,
@@ -91,13 +91,13 @@ module _ (s : Bench) (l : List ℕ) where
             (rw (choose-off (same 1 0) (Refused (refused 3)) Accepted (same-off 1 0 (omega arith)))
             (step-accepted (rw whole at z)))
 
-        turned : refusal s (take 8 l) ≢ 0 → steppedBy (runFrom 1 l s 0 None 0) ≡ stepOf s l
+        turned : refusal s (take 8 l) ≢ 0 → steppedBy (runFrom rules 1 l s 0 None 0) ≡ stepOf s l
         turned z =
             rw (run-refused l s 0 None 0 1 some (omega arith) z, whole)
             (step-refused (refusal s l) refl (rw whole at z))
 
   -- any other number of bytes
-  none : length l ≢ 8 → soundOf s ≡ true → steppedBy (runFrom 1 [] s 0 None 0) ≡ stepOf s l
+  none : length l ≢ 8 → soundOf s ≡ true → steppedBy (runFrom rules 1 [] s 0 None 0) ≡ stepOf s l
   unfolding steppedBy answerTo endedOf
   none n h =
       rw (run-empty [] s 0 None 0 1 refl, choose-on (same 0 0) (Refused (refused 3)) Accepted (same-mk 0 0 refl))

@@ -84,10 +84,13 @@ agreedOf n a rows p =
     same (p .previous) (nextOf a p)
     && (sameTo n (filledOf a rows p) (p .estimate) && allSame 16 n (peersOf a p) rows (filledOf a rows p))
 
--- how the round ends (request C-11): where it is t + 1 by the last round, whatever the test says; else agreed if
--- the test holds; else the next round opens
+-- how the round ends (request C-11), by what the test says: where it is t + 1 by the last round, whatever that is;
+-- else agreed if the test holds; else the next round opens
+abbrev pub endingBy : ℕ → Bool → Process → Closing
+endingBy t agreed p = choose (same (p .round) (t + 1)) LastRound (choose agreed Agreed NextRound)
+
 unfoldable pub closingOf : ℕ → ℕ → ℕ → (ℕ → GlobalData) → Process → Closing
-closingOf n t a rows p = choose (same (p .round) (t + 1)) LastRound (choose (agreedOf n a rows p) Agreed NextRound)
+closingOf n t a rows p = endingBy t (agreedOf n a rows p) p
 
 -- its number; 0 where there was no close
 unfoldable pub closingNumber : Closing → ℕ
@@ -117,11 +120,14 @@ owedOf n a p = differenceOf (removeOf (allOf n) a) (p .suspected)
 unfoldable pub decideOf : GlobalData → ℕ → Process → Process
 decideOf g m p = withEstimate g (withOutbox m (withDecided 1 p))
 
--- steps 4 to 6 together
-unfoldable pub closeOf : ℕ → ℕ → ℕ → (ℕ → GlobalData) → Process → Process
-closeOf n t a rows p =
+-- steps 4 to 6 together, by whether it decides
+abbrev pub closedBy : Bool → ℕ → ℕ → (ℕ → GlobalData) → Process → Process
+closedBy decides n a rows p =
     let g = filledOf a rows p in
-    choose (decidesOf n t a rows p) (decideOf g (owedOf n a p) p) (advanceOf a g p)
+    choose decides (decideOf g (owedOf n a p) p) (advanceOf a g p)
+
+unfoldable pub closeOf : ℕ → ℕ → ℕ → (ℕ → GlobalData) → Process → Process
+closeOf n t a rows p = closedBy (decidesOf n t a rows p) n a rows p
 
 -- ---- step 7, a decision g of k arrives: a started undecided process takes it over,
 -- and does not owe it to k; any other is unchanged

@@ -42,7 +42,7 @@ use Rattle.bench.specs.RefuseLaws.{refusal-unread, refusal-event, accepted-effe
 use Rattle.bench.specs.Effect.{opensRound, rowsAt, sends, arrives, closesAs, effect, effectDecoded, effectOf}
 use Rattle.bench.specs.Closings.{closingAt, closingIn, lastOf}
 use Rattle.bench.specs.ClosingLaws.{close-some, closing-event, last-none, last-close}
-use Rattle.bench.specs.Calls.{refused, endedOf, runFrom, runOf}
+use Rattle.bench.specs.Calls.{refused, rules, endedOf, runFrom, runOf}
 use Rattle.bench.specs.RunLaws.{run-empty, run-spent, run-refused, run-accepted, run-sound}
 use Rattle.checks.specs.Checks.{firstFailed, startCheck, messageCheck, closeCheck}
 use Rattle.checks.specs.Checks.{crashCheck, suspectCheck, takes-started}
@@ -53,7 +53,7 @@ pub record Running (budget : ℕ) (l : List ℕ) (b s : Bench) (at accepted : �
   pub sound : soundOf s ≡ true
   pub within-bytes : at ≤ length l
   pub within-budget : accepted ≤ budget
-  pub gives : runFrom (budget - accepted) (drop at l) s accepted c at ≡ runOf budget l b
+  pub gives : runFrom rules (budget - accepted) (drop at l) s accepted c at ≡ runOf budget l b
 
 pub running-new : (budget : ℕ) (l : List ℕ) (b : Bench) → soundOf b ≡ true → Running budget l b b 0 0 None
 running-new budget l b e =

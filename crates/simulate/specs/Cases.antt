@@ -18,7 +18,7 @@ use Rattle.bench.specs.State.{withSent, withTransit, withCrashed, openedOf}
 use Rattle.bench.specs.Sound.{opens, soundData, soundProcess, soundOf}
 use Rattle.bench.specs.Record.{wordOf, usesB, usesR, usesValue, fieldB, fieldR}
 use Rattle.bench.specs.Record.{fieldValue, fields, messageFrom, eventOf, partsOf, readOf, startFits}
-use Rattle.bench.specs.Record.{checkDiet, decodeOf}
+use Rattle.bench.specs.Record.{valueOf, checkDiet, decodeOf}
 use Rattle.bench.specs.Refuse.{numberOf, actor, isCrash, passes7, passes8, passes9, refuses, refusesDecoded, refusal}
 use Rattle.bench.specs.Effect.{opensRound, rowsAt, sends, arrives, closesAs, effect, effectDecoded, effectOf}
 use Rattle.bench.specs.Calls.{openOf as openBench, afterRecord}
@@ -70,7 +70,7 @@ unfolding input output digits decimal field lineOf entryText processText process
     agreedOf closingOf closingNumber opensNext decidesOf owedOf decideOf advanceOf closeOf adoptOf messageOf sendOf
     suspectOf processAt sentAt transitAt crashedAt withProcess withSent withTransit withCrashed openedOf opens
     everyIn within soundData soundProcess soundOf wordOf oneTo usesB usesR usesValue fieldB fieldR fieldValue
-    fields messageFrom eventOf partsOf readOf startFits checkDiet decodeOf check numberOf actor isCrash passes7
+    fields messageFrom eventOf partsOf valueOf readOf startFits checkDiet decodeOf check numberOf actor isCrash passes7
     passes8 passes9 refuses refusesDecoded refusal opensRound rowsAt sends arrives closesAs effect effectDecoded
     effectOf afterRecord
 case4 = refl

@@ -20,7 +20,7 @@ use Rattle.bench.specs.declared.Cause.the-variants.{Empty, Spent, Refused}
 use Rattle.bench.specs.Sound.{soundOf}
 use Rattle.bench.specs.Refuse.{refusal}
 use Rattle.bench.specs.RefuseLaws.{refusal-damaged, refused-keeps}
-use Rattle.bench.specs.Calls.{refused, afterRecord, endedOf, runFrom, runOf}
+use Rattle.bench.specs.Calls.{refused, rules, afterRecord, endedOf, runFrom, runOf}
 use Rattle.sets.specs.Lists.{joined}
 use Rattle.bench.specs.RunLaws.{run-damaged, run-sound, run-refused, Why, closingTo, Runs, runs, sound-steps}
 use Rattle.bench.specs.OneByOne.{restOf, recordAt, steps}
@@ -82,10 +82,10 @@ rest-length i l = length-drop (8 * i) l
 
 -- ---- a run of some records with some budget, damaged or not
 run-some : (budget : ℕ) (l : List ℕ) (s : Bench) → length l ≢ 0 → budget ≢ 0
-    → runOf budget l s ≡ runFrom budget l s 0 None 0
+    → runOf budget l s ≡ runFrom rules budget l s 0 None 0
 run-some budget l s h b = go (is (soundOf s))
   where
-    go : Is (soundOf s) → runOf budget l s ≡ runFrom budget l s 0 None 0
+    go : Is (soundOf s) → runOf budget l s ≡ runFrom rules budget l s 0 None 0
     go (on e) = run-sound budget l s e
     go (off e) =
         let two = refusal-damaged s (take 8 l) e in

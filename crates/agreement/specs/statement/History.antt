@@ -23,48 +23,69 @@ use Rattle.bench.specs.declared.Event.the-variants.{Start, Send, Arrive, Close,
 use Rattle.bench.specs.declared.Decoded.{Decoded}
 use Rattle.bench.specs.declared.Decoded.the-variants.{Got, Refused}
 use Rattle.bench.specs.State.{processAt, openedOf}
-use Rattle.bench.specs.Record.{decodeOf}
-use Rattle.bench.specs.Refuse.{actor, isCrash, refusal}
+use Rattle.bench.specs.Refuse.{actor, isCrash}
 use Rattle.bench.specs.Effect.{effect, rowsAt}
 use Rattle.bench.specs.Closings.{closingAt, lastOf}
-use Rattle.bench.specs.Calls.{refused, answerOf, openOf, stepOf, tallyOf, runOf}
+use Rattle.bench.specs.Calls.{refused, answerOf, openOf, stepBy, tallyBy, runBy}
+use Rattle.bench.specs.OldRules.{Form, before, now, rulesOf}
+use Rattle.bench.specs.Carry.{carryRefusal, carryOf, carriedForm}
 
--- ---- the calls of a list: one record, with any bytes and any tally, or a run, with any bytes and any budget
+-- ---- the calls of a list: one record, with any bytes and any tally; a run, with any bytes and any budget; or carrying
+-- the bench over (request C-17)
 pub data Call : Type 0 where
   one : List ℕ → Counters → Call
   run : List ℕ → ℕ → Call
+  carry : Call
 
--- what a call hands back besides the bench: the answer, the tally and how the round ended, or how many were
--- accepted, the cause, how the last round ended that it closed, and the bytes not taken
+-- what a call hands back besides the bench: the answer, the tally and how the round ended; or how many were
+-- accepted, the cause, how the last round ended that it closed, and the bytes not taken; or the answer
 pub data Given : Type 0 where
   stepped : Answer → Counters → Closing → Given
   ran : ℕ → Cause → Closing → List ℕ → Given
+  carried : Answer → Given
 
--- ---- the calls as the contracts have them, one after the other from the opened bench
-unfoldable pub afterCall : Call → Bench → Bench
-afterCall (one bytes tally) s = stepOf s bytes .bench
-afterCall (run bytes budget) s = runOf budget bytes s .bench
+-- ---- the calls as the contracts have them, one after the other from the opened bench, by the rules of its form: `now`,
+-- or `before` request C-15 until a carrying is accepted
+unfoldable pub afterCall : Form → Call → Bench → Bench
+afterCall f (one bytes tally) s = stepBy (rulesOf f) s bytes .bench
+afterCall f (run bytes budget) s = runBy (rulesOf f) budget bytes s .bench
+afterCall f carry s = carryOf s .bench
 
-unfoldable pub givenBy : Call → Bench → Given
-givenBy (one bytes tally) s = stepped (stepOf s bytes .answer) (tallyOf s bytes tally) (stepOf s bytes .closing)
-givenBy (run bytes budget) s =
-    let e = runOf budget bytes s in
+unfoldable pub formAfter : Form → Call → Bench → Form
+formAfter f (one bytes tally) s = f
+formAfter f (run bytes budget) s = f
+formAfter f carry s = carriedForm f s
+
+unfoldable pub givenBy : Form → Call → Bench → Given
+givenBy f (one bytes tally) s =
+    let e = stepBy (rulesOf f) s bytes in
+    stepped (e .answer) (tallyBy (rulesOf f) s bytes tally) (e .closing)
+givenBy f (run bytes budget) s =
+    let e = runBy (rulesOf f) budget bytes s in
     ran (e .accepted) (e .cause) (e .closing) (drop (e .taken) bytes)
+givenBy f carry s = carried (carryOf s .answer)
 
-unfoldable pub afterCallsFrom : Bench → List Call → Bench
-afterCallsFrom s [] = s
-afterCallsFrom s (c ∷ calls) = afterCallsFrom (afterCall c s) calls
+unfoldable pub afterCallsFrom : Form → Bench → List Call → Bench
+afterCallsFrom f s [] = s
+afterCallsFrom f s (c ∷ calls) = afterCallsFrom (formAfter f c s) (afterCall f c s) calls
 
-unfoldable pub answersFrom : Bench → List Call → List Given
-answersFrom s [] = []
-answersFrom s (c ∷ calls) = givenBy c s ∷ answersFrom (afterCall c s) calls
+unfoldable pub formFrom : Form → Bench → List Call → Form
+formFrom f s [] = f
+formFrom f s (c ∷ calls) = formFrom (formAfter f c s) (afterCall f c s) calls
 
--- the bench that the calls left, and what they gave
-unfoldable pub afterCalls : ℕ → ℕ → List Call → Bench
-afterCalls n t calls = afterCallsFrom (openOf n t .bench) calls
+unfoldable pub answersFrom : Form → Bench → List Call → List Given
+answersFrom f s [] = []
+answersFrom f s (c ∷ calls) = givenBy f c s ∷ answersFrom (formAfter f c s) (afterCall f c s) calls
 
-unfoldable pub answers : ℕ → ℕ → List Call → List Given
-answers n t calls = answersFrom (openOf n t .bench) calls
+-- the bench that the calls left, its form then, and what they gave
+unfoldable pub afterCalls : Form → ℕ → ℕ → List Call → Bench
+afterCalls f n t calls = afterCallsFrom f (openOf n t .bench) calls
+
+unfoldable pub formLeft : Form → ℕ → ℕ → List Call → Form
+formLeft f n t calls = formFrom f (openOf n t .bench) calls
+
+unfoldable pub answers : Form → ℕ → ℕ → List Call → List Given
+answers f n t calls = answersFrom f (openOf n t .bench) calls
 
 -- ---- the history: the accepted records in order, worked from what the calls are given
 -- where the protocol steps take a bench over some records
@@ -82,38 +103,42 @@ eventIn (Got e) = e ∷ []
 eventIn (Refused r) = []
 
 -- the number by which some bytes are refused after the history h; 0 where they are accepted
-unfoldable pub refusedAfter : ℕ → ℕ → List Event → List ℕ → ℕ
-refusedAfter n t h bytes = refusal (afterHistory n t h) bytes
+unfoldable pub refusedAfter : Form → ℕ → ℕ → List Event → List ℕ → ℕ
+refusedAfter f n t h bytes = rulesOf f .refuses (afterHistory n t h) bytes
 
 -- one record adds itself if it is accepted there
-unfoldable pub addRecord : ℕ → ℕ → List Event → List ℕ → List Event
-addRecord n t h bytes = choose (same (refusedAfter n t h bytes) 0) (h ++ eventIn (decodeOf n t bytes)) h
+unfoldable pub addRecord : Form → ℕ → ℕ → List Event → List ℕ → List Event
+addRecord f n t h bytes =
+    choose (same (refusedAfter f n t h bytes) 0) (h ++ eventIn (rulesOf f .decodes (afterHistory n t h) bytes)) h
 
 -- a run adds its records one by one, until its bytes are empty, its budget is spent or one is refused
-unfoldable pub addRun : ℕ → ℕ → ℕ → List Event → List ℕ → List Event
-addRun n t zero h bytes = h
-addRun n t (suc budget) h bytes =
+unfoldable pub addRun : Form → ℕ → ℕ → ℕ → List Event → List ℕ → List Event
+addRun f n t zero h bytes = h
+addRun f n t (suc budget) h bytes =
     choose (same (length bytes) 0) h
-    (choose (same (refusedAfter n t h (take 8 bytes)) 0)
-    (addRun n t budget (addRecord n t h (take 8 bytes)) (drop 8 bytes)) h)
+    (choose (same (refusedAfter f n t h (take 8 bytes)) 0)
+    (addRun f n t budget (addRecord f n t h (take 8 bytes)) (drop 8 bytes)) h)
 
-unfoldable pub addCall : ℕ → ℕ → List Event → Call → List Event
-addCall n t h (one bytes tally) = addRecord n t h bytes
-addCall n t h (run bytes budget) = addRun n t budget h bytes
+-- carrying adds nothing
+unfoldable pub addCall : Form → ℕ → ℕ → List Event → Call → List Event
+addCall f n t h (one bytes tally) = addRecord f n t h bytes
+addCall f n t h (run bytes budget) = addRun f n t budget h bytes
+addCall f n t h carry = h
 
-unfoldable pub historyFrom : ℕ → ℕ → List Event → List Call → List Event
-historyFrom n t h [] = h
-historyFrom n t h (c ∷ calls) = historyFrom n t (addCall n t h c) calls
+unfoldable pub historyFrom : Form → ℕ → ℕ → List Event → List Call → List Event
+historyFrom f n t h [] = h
+historyFrom f n t h (c ∷ calls) =
+    historyFrom (formAfter f c (afterHistory n t h)) n t (addCall f n t h c) calls
 
-unfoldable pub history : ℕ → ℕ → List Call → List Event
-history n t calls = historyFrom n t [] calls
+unfoldable pub history : Form → ℕ → ℕ → List Call → List Event
+history f n t calls = historyFrom f n t [] calls
 
 -- ---- what the rules give a call after the history h
 -- why a run ends that has taken `taken` records and leaves `rest`, with the history h then
-unfoldable pub causeAfter : ℕ → ℕ → List Event → ℕ → ℕ → List ℕ → Cause
-causeAfter n t h budget taken rest =
+unfoldable pub causeAfter : Form → ℕ → ℕ → List Event → ℕ → ℕ → List ℕ → Cause
+causeAfter f n t h budget taken rest =
     choose (same (length rest) 0) Empty
-    (choose (same taken budget) Spent (Refusing (refused (refusedAfter n t h (take 8 rest)))))
+    (choose (same taken budget) Spent (Refusing (refused (refusedAfter f n t h (take 8 rest)))))
 
 -- how the last close among some records ended, on the bench before them; none where there is none
 unfoldable pub closingFrom : Bench → List Event → Closing
@@ -124,22 +149,24 @@ closingFrom s (e ∷ h) = lastOf (closingAt e s) (closingFrom (effect e s) h)
 unfoldable pub closingAdded : ℕ → ℕ → List Event → List Event → Closing
 closingAdded n t h h′ = closingFrom (afterHistory n t h) (drop (length h) h′)
 
-unfoldable pub ruledBy : ℕ → ℕ → List Event → Call → Given
-ruledBy n t h (one bytes tally) =
-    stepped (answerOf (refusedAfter n t h bytes)) (tallyOf (afterHistory n t h) bytes tally)
-    (closingAdded n t h (addRecord n t h bytes))
-ruledBy n t h (run bytes budget) =
-    let h′ = addRun n t budget h bytes in
+unfoldable pub ruledBy : Form → ℕ → ℕ → List Event → Call → Given
+ruledBy f n t h (one bytes tally) =
+    stepped (answerOf (refusedAfter f n t h bytes)) (tallyBy (rulesOf f) (afterHistory n t h) bytes tally)
+    (closingAdded n t h (addRecord f n t h bytes))
+ruledBy f n t h (run bytes budget) =
+    let h′ = addRun f n t budget h bytes in
     let taken = length h′ - length h in
     let rest = drop (8 * taken) bytes in
-    ran taken (causeAfter n t h′ budget taken rest) (closingAdded n t h h′) rest
+    ran taken (causeAfter f n t h′ budget taken rest) (closingAdded n t h h′) rest
+ruledBy f n t h carry = carried (answerOf (carryRefusal (afterHistory n t h)))
 
-unfoldable pub ruledFrom : ℕ → ℕ → List Event → List Call → List Given
-ruledFrom n t h [] = []
-ruledFrom n t h (c ∷ calls) = ruledBy n t h c ∷ ruledFrom n t (addCall n t h c) calls
+unfoldable pub ruledFrom : Form → ℕ → ℕ → List Event → List Call → List Given
+ruledFrom f n t h [] = []
+ruledFrom f n t h (c ∷ calls) =
+    ruledBy f n t h c ∷ ruledFrom (formAfter f c (afterHistory n t h)) n t (addCall f n t h c) calls
 
-unfoldable pub ruled : ℕ → ℕ → List Call → List Given
-ruled n t calls = ruledFrom n t [] calls
+unfoldable pub ruled : Form → ℕ → ℕ → List Call → List Given
+ruled f n t calls = ruledFrom f n t [] calls
 
 -- ---- decisions, worked over a history
 pub data Outcome : Type 0 where

@@ -6,7 +6,8 @@ use denote.Ref.{now}
 use lib.ListN.{getD, length}
 use Rattle.bench.specs.Record.{partsOf, checkDiet, decodeOf}
 use Rattle.bench.specs.declared.Decoded.{Decoded}
-use Rattle.bench.specs.RecordLaws.{valueOf, decode-size, decode-parts}
+use Rattle.bench.specs.Record.{valueOf}
+use Rattle.bench.specs.RecordLaws.{decode-size, decode-parts}
 use borrow.Author.Needs.{needs}
 use Rattle.records.proofs.decode.Statement.{statement}
 use Rattle.records.proofs.decode.Tie as tie

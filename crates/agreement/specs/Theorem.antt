@@ -27,14 +27,14 @@ use Rattle.bench.specs.Sound.{opens}
 use Rattle.bench.specs.SoundLaws.{sound-on}
 use Rattle.bench.specs.Refuse.{refusal}
 use Rattle.bench.specs.Calls.{refused, answerOf, openOf, wordAt, showOf, shownIn}
-use Rattle.agreement.specs.statement.History.{Call, afterCalls, formLeft, answers, history, afterHistory, undecided}
+use Rattle.agreement.specs.statement.History.{Call, carry, afterCalls, formLeft, answers, history, afterHistory, undecided}
 use Rattle.agreement.specs.statement.History.{decidedOn, outcome, isDecided, beforeDecision}
 use Rattle.agreement.specs.statement.History.{startedWith, crashedIn, crashCount, rounds}
 use Rattle.bench.specs.OldRules.{Form, before, now}
 use Rattle.bench.specs.Carry.{carryOf, carryRefusal}
 use Rattle.bench.specs.OldRulesLaws.{refused-now}
 use Rattle.agreement.specs.statement.Demand3.{isKind5, Demand3}
-use Rattle.agreement.specs.statement.Carrying.{plainCall, rewritten, Carrying}
+use Rattle.agreement.specs.statement.Carrying.{plainCall, Carrying, Across}
 use Rattle.agreement.specs.histories.Replay.{Next, along, sizes-to, sizes-from, left-is, answers-are}
 use Rattle.agreement.specs.invariants.Safety.{Good}
 use Rattle.agreement.specs.invariants.Agreement.{agree, valid, rounds-crashes}
@@ -48,6 +48,7 @@ use Rattle.agreement.specs.histories.HistoryMatchesBench.{Told, told-ope
 use Rattle.agreement.specs.histories.AbsentCrashed.{Decided, first-opened, first-next, decided-is}
 use Rattle.agreement.specs.histories.PlainStarts.{Starts, starts-opened, starts-next, carry-history}
 use Rattle.agreement.specs.histories.RewrittenCalls.{rewritten-calls, calls-alike, plain-history}
+use Rattle.agreement.specs.histories.AcrossCarrying.{form-across, bench-across, history-across}
 use Rattle.agreement.specs.histories.GlobalDataCall.{shows-decided, hides-undecided}
 use Rattle.agreement.specs.bridge.RefusedBytes.{refused-events}
 
@@ -219,4 +220,15 @@ carrying n t calls o p =
           ap₂ carriedAs
           (choose-on _ _ _ (number-same (carryRefusal (afterCalls before n t calls)) 0 z)) (A .bench ∙ ap (afterCalls now n t) w);
       given = A .given ∙ ap (answers now n t) w;
+    }
+
+-- and where carrying is accepted, the calls before it and those after it make one history
+pub across : (n t : ℕ) (old new : List Call) → opens n t ≡ true → carryRefusal (afterCalls before n t old) ≡ 0
+    → Across n t old new
+across n t old new o z =
+    record {
+      form = form-across n t o old new z;
+      bench = bench-across n t o old new z;
+      events = history-across n t o old new z;
+      demand = demand3 before n t (old ++ (carry ∷ new)) o;
     }

@@ -8,3 +8,4 @@ pub mod AbsentCrashed
 pub mod GlobalDataCall
 pub mod PlainStarts
 pub mod RewrittenCalls
+pub mod AcrossCarrying

@@ -1,5 +1,5 @@
--- The starred cases 1 to 8 of document 01, and starts of the requests, as one table, and one theorem that the
--- definitions give each of them its answers, how its rounds ended (request C-11) and its end.
+-- The starred cases 1 to 8 of document 01, starts of the requests and weeks that are carried over, as one table, and one
+-- theorem that the definitions give each of them its answers, how its rounds ended (request C-11) and its end.
 use mathlib.Core.Path.{_≡_, refl}
 use mathlib.Core.List.{List, [], _∷_}
 use mathlib.Core.Bool.{Bool, true, false}
@@ -31,7 +31,10 @@ use Rattle.bench.specs.Refuse.{numberOf, actor, isCrash, passes7, passes
 use Rattle.bench.specs.Refuse.{passes9, refuses, refusesDecoded, refusal}
 use Rattle.bench.specs.Effect.{opensRound, rowsAt, sends, arrives, closesAs, effect, effectDecoded, effectOf}
 use Rattle.bench.specs.Closings.{closingAt, closingDecoded, closingIn, isNone}
-use Rattle.bench.specs.Calls.{afterRecord}
+use Rattle.bench.specs.Calls.{Rules, rules, afterBy, afterRecord}
+use Rattle.bench.specs.OldRules.{oldEntryOf, oldSameEntry, oldSameTo, oldAgreed, oldClosingOf, oldCloseOf}
+use Rattle.bench.specs.OldRules.{oldEffect, oldClosingAt, oldRefusal, oldRules}
+use Rattle.bench.specs.Carry.{plainData, plainProcess, plainBench, carryRefusal}
 
 -- a record's bytes: kind, a, b, r, and no value
 bytes : ℕ → ℕ → ℕ → ℕ → List ℕ
@@ -92,10 +95,10 @@ pub record Case : Type 0 where
   pub closings : List Closes
   pub lines : List Line
 
--- the answers, and the bench at the end
-answersOf : Bench → List (List ℕ) → List ℕ
-answersOf s [] = []
-answersOf s (r ∷ rs) = refusal s r ∷ answersOf (afterRecord s r) rs
+-- the answers, and the bench at the end, by the rules of now or those before request C-15
+answersOf : Rules → Bench → List (List ℕ) → List ℕ
+answersOf R s [] = []
+answersOf R s (r ∷ rs) = R .refuses s r ∷ answersOf R (afterBy R s r) rs
 
 -- the closings that are not none, the first record being number k
 closingsOf : ℕ → Bench → List (List ℕ) → List Closes
@@ -104,9 +107,9 @@ closingsOf k s (r ∷ rs) =
     let rest = closingsOf (suc k) (afterRecord s r) rs in
     choose (isNone (closingIn s r)) rest (at k (closingIn s r) ∷ rest)
 
-endOf : Bench → List (List ℕ) → Bench
-endOf s [] = s
-endOf s (r ∷ rs) = endOf (afterRecord s r) rs
+endOf : Rules → Bench → List (List ℕ) → Bench
+endOf R s [] = s
+endOf R s (r ∷ rs) = endOf R (afterBy R s r) rs
 
 sameBool : Bool → Bool → Bool
 sameBool true b = b
@@ -146,9 +149,9 @@ sameLine s l =
 pub passesFrom : Bench → Case → Bool
 passesFrom s c =
     same (choose (opens (c .n) (c .t)) 0 1) (c .opening)
-    && (sameList (answersOf s (c .records)) (c .answers)
+    && (sameList (answersOf rules s (c .records)) (c .answers)
     && (sameClosings (closingsOf 1 s (c .records)) (c .closings)
-    && everyIn (sameLine (endOf s (c .records))) (c .lines)))
+    && everyIn (sameLine (endOf rules s (c .records))) (c .lines)))
 
 pub passes : Case → Bool
 passes c = passesFrom (openedOf (c .n) (c .t)) c
@@ -349,12 +352,95 @@ table =
     case1 ∷ case2 ∷ case3 ∷ case4and6 ∷ sizes 16 15 0 ∷ sizes 17 0 1 ∷ sizes 0 0 1 ∷ case7 ∷ case8 ∷ case9 ∷ case10
     ∷ values 0 0 ∷ values 65535 0 ∷ values 65535 65535 ∷ values 1 1 ∷ tooMuch ∷ []
 
+-- ---- request C-17: records by the old rules, what carrying answers then, records by those of now, what it answers
+-- again, and some processes at the end
+pub record Week : Type 0 where
+  pub n : ℕ
+  pub t : ℕ
+  pub old : List (List ℕ)
+  pub old-answers : List ℕ
+  pub carried : ℕ
+  pub new : List (List ℕ)
+  pub new-answers : List ℕ
+  pub again : ℕ
+  pub lines : List Line
+
+pub weekPasses : Week → Bool
+weekPasses w =
+    let s = openedOf (w .n) (w .t) in
+    let c = endOf oldRules s (w .old) in
+    let e = endOf rules c (w .new) in
+    sameList (answersOf oldRules s (w .old)) (w .old-answers)
+    && (same (carryRefusal c) (w .carried)
+    && (sameList (answersOf rules c (w .new)) (w .new-answers)
+    && (same (carryRefusal e) (w .again) && everyIn (sameLine e) (w .lines))))
+
+-- case 4 with a larger value, carried after its fifth record: a message is on its way, and none is lost
+carriedOver : Week
+carriedOver =
+    record {
+      n = 2;
+      t = 1;
+      old = start 1 40 ∷ start 2 65535 ∷ send 1 2 ∷ send 2 1 ∷ arrive 1 2 1 ∷ [];
+      old-answers = 0 ∷ 0 ∷ 0 ∷ 0 ∷ 0 ∷ [];
+      carried = 0;
+      new = arrive 2 1 1 ∷ close 1 ∷ crash 2 ∷ send 1 2 ∷ close 1 ∷ suspect 1 2 ∷ close 1 ∷ [];
+      new-answers = 0 ∷ 0 ∷ 0 ∷ 0 ∷ 8 ∷ 0 ∷ 0 ∷ [];
+      again = 0;
+      lines =
+          line 1 2 false true 3 (Value 40 0 ∷ Value 65535 0 ∷ [])
+          ∷ line 2 1 true false 3 (Absent ∷ Value 65535 0 ∷ []) ∷ [];
+    }
+
+-- the value 65,536 is refused by 16 where its start was accepted, also once its process has crashed
+tooLarge : List (List ℕ) → List ℕ → Week
+tooLarge more answers =
+    record {
+      n = 2;
+      t = 1;
+      old = startWith 1 0 1 ∷ more;
+      old-answers = 0 ∷ answers;
+      carried = 16;
+      new = [];
+      new-answers = [];
+      again = 16;
+      lines = [];
+    }
+
+-- and not where it was refused, by 6 and by 7. The same record is then refused by 15; and a carried bench in which a
+-- process has diet portions is not carried again
+unheld : Week
+unheld =
+    record {
+      n = 3;
+      t = 1;
+      old = crash 1 ∷ startWith 1 0 1 ∷ start 2 5 ∷ startWith 2 0 1 ∷ [];
+      old-answers = 0 ∷ 6 ∷ 0 ∷ 7 ∷ [];
+      carried = 0;
+      new = startWith 1 0 1 ∷ startWith 2 0 1 ∷ startWith 3 25 3 ∷ [];
+      new-answers = 15 ∷ 15 ∷ 0 ∷ [];
+      again = 16;
+      lines = line 2 1 false false 7 (Absent ∷ Value 5 0 ∷ Absent ∷ []) ∷ [];
+    }
+
+pub weeks : List Week
+weeks = carriedOver ∷ tooLarge [] [] ∷ tooLarge (crash 1 ∷ []) (0 ∷ []) ∷ unheld ∷ []
+
+-- states that no schedule reaches: 2 before 16; 16 by a row alone, of a round that is not open; words under absent
+-- entries, which do not count
+pub statesPass : Bool
+statesPass =
+    let s = openedOf 2 1 in
+    same (carryRefusal (withCrashed (withSent s 0 1 (oneOf 0 65536)) 5)) 2
+    && (same (carryRefusal (withSent s 1 9 (oneOf 0 65536))) 16
+    && same (carryRefusal (withSent s 0 1 (record { present = 2; values = 65536 ∷ 65535 ∷ 65536 ∷ [] }))) 0)
+
 -- every case passes: the checker computes it from the definitions
-pub cases : (everyIn passes table && passesFrom held heldCase) ≡ true
+pub cases : (everyIn passes table && (passesFrom held heldCase && (everyIn weekPasses weeks && statesPass))) ≡ true
 unfolding bytes startWith start send arrive close crash suspect answersOf closingsOf endOf sameBool sameList
     sameClosings sameEntries pred sameLine passesFrom passes
     round3 noRefusal allThree case1 case2 case3 case4and6 sizes case7 case8 case9 case10 values tooMuch held heldCase
-    table
+    table weekPasses carriedOver tooLarge unheld weeks statesPass
     has insertOf removeOf unionOf intersectionOf differenceOf allOf sizeOf ones _&&_ _||_ same below choose
     portionsOf dietOf entryOf sameEntry dietFits each every nothingOf oneOf filledWord fillOf fillFrom sameTo allSame
     idleOf hasDecided takesPart openRoundOf startOf keeps receiveOf arrivedOf dueOf nextOf peersOf filledOf agreedOf
@@ -364,5 +450,6 @@ unfolding bytes startWith start send arrive close crash suspect answersOf closin
     wordOf oneTo usesB usesR usesValue fieldB fieldR fieldValue fields messageFrom eventOf partsOf valueOf readOf startFits
     checkDiet decodeOf check numberOf actor isCrash passes7 passes8 passes9 refuses refusesDecoded refusal
     opensRound rowsAt sends arrives closesAs effect effectDecoded effectOf afterRecord
-    closingAt closingDecoded closingIn isNone
+    closingAt closingDecoded closingIn isNone oldEntryOf oldSameEntry oldSameTo oldAgreed oldClosingOf oldCloseOf
+    oldEffect oldClosingAt oldRefusal plainData plainProcess plainBench carryRefusal
 cases = refl

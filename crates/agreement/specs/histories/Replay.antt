@@ -272,7 +272,7 @@ module _ (n t : ℕ) (P : List Event → Type 0)
 
 -- ---- a call, and a list of calls
 module _ (n t : ℕ) where
-  bench-call : (f : Form) (h : List Event) (c : Call) → soundOf (afterHistory n t h) ≡ true
+  pub bench-call : (f : Form) (h : List Event) (c : Call) → soundOf (afterHistory n t h) ≡ true
       → afterCall f c (afterHistory n t h) ≡ afterHistory n t (addCall f n t h c)
   unfolding afterCall addCall refusedAfter carryOf
   bench-call f h (one bytes tally) o = go (is (same (refusedAfter f n t h bytes) 0))
@@ -313,6 +313,10 @@ module _ (n t : ℕ) where
           rw (← m, a, b, R .cause, closing)
   given-call f h carry o = refl
 
+  pub sound-call : (f : Form) (h : List Event) (c : Call) → soundOf (afterHistory n t h) ≡ true
+      → soundOf (afterHistory n t (addCall f n t h c)) ≡ true
+  sound-call f h c o = along-call n t (λ g. soundOf (afterHistory n t g) ≡ true) (λ g e N p. N .sound-after) f h c o
+
   pub record Replayed (f : Form) (h : List Event) (calls : List Call) : Type 0 where
     pub bench : afterCallsFrom f (afterHistory n t h) calls ≡ afterHistory n t (historyFrom f n t h calls)
     pub given : answersFrom f (afterHistory n t h) calls ≡ ruledFrom f n t h calls
@@ -323,8 +327,7 @@ module _ (n t : ℕ) where
   replay-from f h [] o = record { bench = refl; given = refl }
   replay-from f h (c ∷ calls) o =
       let f′ = formAfter f c (afterHistory n t h) in
-      let R = replay-from f′ (addCall f n t h c) calls
-      (along-call n t (λ g. soundOf (afterHistory n t g) ≡ true) (λ g e N p. N .sound-after) f h c o) in
+      let R = replay-from f′ (addCall f n t h c) calls (sound-call f h c o) in
       record {
         bench = ap (λ (s : Bench). afterCallsFrom f′ s calls) (bench-call f h c o) ∙ R .bench;
         given =
@@ -334,7 +337,7 @@ module _ (n t : ℕ) where
 
   -- ---- the whole list, from the opened bench
   module _ (o : opens n t ≡ true) (f : Form) (calls : List Call) where
-    start : openOf n t .bench ≡ afterHistory n t []
+    pub start : openOf n t .bench ≡ afterHistory n t []
     unfolding openOf afterHistory afterEvents
     start = ap (λ (s : Opened). s .bench) (choose-on _ _ _ o)
 

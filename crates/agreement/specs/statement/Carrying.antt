@@ -1,15 +1,17 @@
--- Carrying a running week over (request C-17), as one statement, over every list of calls on an opened bench of before
--- request C-15 whose starts have values of at most 65,535. The theorem is in ../CarryingTheorem.antt; what holds of the
--- bench once it is carried and stepped on is in Demand3.
+-- Carrying a running week over (request C-17), as two statements: over every list of calls on an opened bench of before
+-- request C-15 whose starts have values of at most 65,535; and over every list of calls on one that is then carried, and
+-- of calls after that. The theorems are in ../Theorem.antt.
 use mathlib.Core.Path.{_≡_}
-use mathlib.Core.List.{List, map}
+use mathlib.Core.List.{List, _∷_, _++_, map}
 use mathlib.Core.Bool.{Bool, true}
 use Prim.Native.Nat.{ℕ}
 use Rattle.sets.specs.Lists.{everyIn}
 use Rattle.bench.specs.declared.Answer.the-variants.{Accepted}
 use Rattle.bench.specs.OldRules.{before, now}
 use Rattle.bench.specs.Carry.{carryOf, plainRecord, plainSchedule, rewrittenRecord, rewrittenSchedule}
-use Rattle.agreement.specs.statement.History.{Call, one, run, carry, afterCalls, answers}
+use Rattle.agreement.specs.statement.History.{Call, one, run, carry, afterCallsFrom, afterCalls, formLeft}
+use Rattle.agreement.specs.statement.History.{answers, historyFrom, history}
+use Rattle.agreement.specs.statement.Demand3.{Demand3}
 
 -- every start that a call is given has a value of at most 65,535, whether it is accepted or not
 unfoldable pub plainCall : Call → Bool
@@ -29,3 +31,11 @@ pub record Carrying (n t : ℕ) (calls : List Call) : Type 0 where
       ≡ record { answer = Accepted; bench = afterCalls now n t (map rewritten calls) }
   -- and every call gave the same
   pub given : answers before n t calls ≡ answers now n t (map rewritten calls)
+
+-- a list of calls on an old bench, one carrying that is accepted, and a list of calls on the new one, as one history:
+-- first by the old rules, then by those of now, and demand 3 of the whole
+pub record Across (n t : ℕ) (old new : List Call) : Type 0 where
+  pub form : formLeft before n t (old ++ (carry ∷ new)) ≡ now
+  pub bench : afterCalls before n t (old ++ (carry ∷ new)) ≡ afterCallsFrom now (afterCalls before n t old) new
+  pub events : history before n t (old ++ (carry ∷ new)) ≡ historyFrom now n t (history before n t old) new
+  pub demand : Demand3 before n t (old ++ (carry ∷ new))

@@ -7,6 +7,7 @@ use bench::Counters;
 use bench::Ended;
 use bench::Listed;
 use bench::Shown;
+use carry::carry;
 use decision::global_data;
 use one_record::answer_to;
 use one_record::tally_after;
@@ -15,6 +16,7 @@ use transit::in_transit;
 ghost use mathlib.Core.Path.{_≡_};
 ghost use Rattle.process.specs.Steps.{closingNumber};
 ghost use Rattle.bench.specs.Calls.{showOf, shownIn};
+ghost use Rattle.bench.specs.Carry.{carryOf};
 ghost use Rattle.bench.specs.TransitList.{listOf, listedIn};
 ghost use Rattle.answers.specs.Numbers.{answerNumber, causeNumber, shownNumber, listedNumber};
 ghost use Rattle.answers.specs.Numbers.{hostOpenedOf, reachedOf, hostRanOf, hostSteppedOf};
@@ -119,6 +121,15 @@ pub fn open_by(b: Bench, n: u8, t: u8) -> HostOpened
             number: r.number as u32,
         },
     }
+}
+
+// What carrying answers; the bench stays in any case, and is not given back.
+pub fn carry_by(b: Bench) -> u32
+    ensures { λ r. ⌜ r ≡ answerNumber (carryOf b .answer) ⌝ }
+{
+    let c = carry(b);
+    let answer = c.answer;
+    answer_number(answer)
 }
 
 // The end of a run, without the bench.

@@ -7,7 +7,6 @@ use mathlib.Core.List.{List}
 use mathlib.Core.Bool.{Bool, true, false, not}
 use Prim.Native.Nat.{ℕ}
 use native.Mathlib.Omega.{arith}
-use lib.ListN.{getD}
 use Rattle.sets.specs.Lists.{every}
 use Rattle.sets.specs.Set.{has}
 use Rattle.sets.specs.Truth.{_&&_, same, choose}
@@ -16,7 +15,6 @@ use Rattle.global_data.specs.declared.GlobalData.{GlobalData}
 use Rattle.global_data.specs.GlobalData.{entry, entryOf, sameEntry, sameTo, allSame}
 use Rattle.global_data.specs.WordLaws.{same-words}
 use Rattle.process.specs.declared.Process.{Process}
-use Rattle.process.specs.declared.Closing.{Closing}
 use Rattle.process.specs.declared.Closing.the-variants.{None}
 use Rattle.process.specs.Steps.{nextOf, peersOf, filledOf, agreedOf, endingBy, closingOf, decidesOf, opensNext}
 use Rattle.process.specs.Steps.{closedBy, closeOf}
@@ -32,12 +30,10 @@ use Rattle.bench.specs.SoundLaws.{sound-effect}
 use Rattle.bench.specs.Record.{readOf, decodeOf}
 use Rattle.bench.specs.RecordLaws.{inRange, read-refused, decode-refused, decode-read, read-range}
 use Rattle.bench.specs.Refuse.{refuses, refusesDecoded, refusalOf, refusal}
-use Rattle.bench.specs.RefuseLaws.{refusal-event}
 use Rattle.bench.specs.Effect.{rowsAt, closesAs, effect, effectDecoded, effectOf}
 use Rattle.bench.specs.Closings.{closingAt, closingDecoded, closingIn}
-use Rattle.bench.specs.Calls.{rules}
-use Rattle.bench.specs.OldRules.{OldEntry, absent, number, oldEntryOf, oldSameEntry, oldSameTo, oldAgreed}
-use Rattle.bench.specs.OldRules.{oldClosingOf, oldCloseOf, oldEffect, oldClosingAt, oldRefusal, oldRules}
+use Rattle.bench.specs.OldRules.{absent, number, oldEntryOf, oldSameEntry, oldSameTo, oldAgreed}
+use Rattle.bench.specs.OldRules.{oldClosingOf, oldCloseOf, oldEffect, oldClosingAt, oldRefusal}
 use Rattle.bench.specs.OldRules.{Form, before, now, rulesOf}
 
 -- ---- one number is compared as its two halves are

@@ -10,8 +10,8 @@ use native.Mathlib.Omega.{arith}
 use lib.ListN.{getD, length, take, drop, length-take, length-drop, take-append-drop, drop-of-length-le}
 use lib.Seq.{drop-cons}
 use Rattle.sets.specs.EveryLaws as every
-use Rattle.sets.specs.Truth.{_&&_, same, below, choose}
-use Rattle.sets.specs.TruthLaws.{Is, on, off, is, choose-on, choose-off, and-l, and-r, and-mk, and-off-l}
+use Rattle.sets.specs.Truth.{same, choose}
+use Rattle.sets.specs.TruthLaws.{Is, on, off, is, choose-on, choose-off, and-l, and-mk, and-off-l}
 use Rattle.sets.specs.TruthLaws.{same-on, same-mk, same-off, below-on, le-or}
 use Rattle.global_data.specs.WordLaws.{plain-word, fits-mk}
 use Rattle.process.specs.declared.Closing.{Closing}
@@ -24,7 +24,7 @@ use Rattle.bench.specs.declared.Event.{Event}
 use Rattle.bench.specs.declared.Event.the-variants.{Start, Send, Arrive, Close, Crash, Suspect}
 use Rattle.bench.specs.declared.Decoded.{Decoded}
 use Rattle.bench.specs.declared.Decoded.the-variants.{Got, Refused}
-use Rattle.bench.specs.Record.{wordOf, usesValue, messageFrom, eventOf, valueOf, readOf, startFits, decodeOf}
+use Rattle.bench.specs.Record.{wordOf, usesValue, eventOf, valueOf, readOf, startFits, decodeOf}
 use Rattle.bench.specs.Record.{checkDiet}
 use Rattle.bench.specs.Sound.{soundOf}
 use Rattle.bench.specs.RecordLaws.{From, diet-fit, diet-refused, read-from}

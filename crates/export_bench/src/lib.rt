@@ -2,6 +2,7 @@
 // value, and stores what comes of it. What a call answers is a number, by the definitions of `answers`.
 use answers::Progress;
 use answers::Reached;
+use answers::carry_by;
 use answers::host_ran;
 use answers::host_stepped;
 use answers::list_by;
@@ -15,6 +16,7 @@ use run::run_bytes;
 ghost use mathlib.Core.Path.{_≡_};
 ghost use Rattle.process.specs.Steps.{closingNumber};
 ghost use Rattle.bench.specs.Calls.{openOf, stepOf, tallyOf, runOf, showOf, shownIn};
+ghost use Rattle.bench.specs.Carry.{carryOf};
 ghost use Rattle.bench.specs.TransitList.{listOf, listedIn};
 ghost use Rattle.answers.specs.Numbers.{answerNumber, causeNumber, shownNumber};
 ghost use Rattle.answers.specs.Numbers.{listedNumber, openedIn, progressOf, reachedOf};
@@ -28,6 +30,15 @@ pub extern "C" fn gerzulan_bench_open(b: &mut Bench, n: u8, t: u8) -> u32
     let r = open_by(*b, n, t);
     *b = r.bench;
     r.number
+}
+
+// Carries a bench of before diet portions over. Refused or not, no word of it changes.
+#[no_mangle]
+pub extern "C" fn gerzulan_bench_carry(b: &mut Bench) -> u32
+    ensures { λ r. ⌜ (r ≡ answerNumber (carryOf (now (b .entry)) .answer))
+        × (now (b .exit) ≡ carryOf (now (b .entry)) .bench) ⌝ }
+{
+    carry_by(*b)
 }
 
 // A run of a lent bench. The one place that calls run, so that the compiler joins the two and

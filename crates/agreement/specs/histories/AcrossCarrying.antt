@@ -1,7 +1,7 @@
 -- A list of calls after another: what the two leave and add is what the second does where the first came to, by the rules
 -- of the form that it then has. With an accepted carrying between them those are the rules of now. By induction on the
 -- first.
-use mathlib.Core.Path.{_≡_, refl, sym, ap, ap₂, _∙_}
+use mathlib.Core.Path.{_≡_, refl, sym, ap, _∙_}
 use mathlib.Core.List.{List, [], _∷_, _++_}
 use mathlib.Core.Bool.{true}
 use Prim.Native.Nat.{ℕ}
@@ -16,7 +16,7 @@ use Rattle.bench.specs.Carry.{carryRefusal, carryOf, carriedForm}
 use Rattle.agreement.specs.statement.History.{Call, carry, afterCall, formAfter, afterCallsFrom, formFrom}
 use Rattle.agreement.specs.statement.History.{afterCalls, formLeft, afterEvents, afterHistory, addCall}
 use Rattle.agreement.specs.statement.History.{historyFrom, history}
-use Rattle.agreement.specs.histories.Replay.{bench-call, sound-call, start, left-is}
+use Rattle.agreement.specs.histories.Replay.{bench-call, sound-call, left-is}
 use Rattle.agreement.specs.histories.RewrittenCalls.{now-stays}
 
 -- ---- one list after another

@@ -4,22 +4,18 @@
 use mathlib.Core.Path.{_≡_, refl, sym, ap, _∙_}
 use mathlib.Core.List.{List, [], _∷_, _++_}
 use mathlib.Core.Bool.{Bool, true, false}
-use mathlib.Core.Logic.{_⊎_, inl, inr, ⊎-elim}
-use Prim.Native.Nat.{ℕ, suc, _≤_, _<_}
+use mathlib.Core.Logic.{⊎-elim}
+use Prim.Native.Nat.{ℕ, _≤_, _<_}
 use native.Mathlib.Omega.{arith}
-use lib.ListN.{getD}
 use Rattle.sets.specs.Lists.{everyIn}
-use Rattle.sets.specs.Set.{has}
 use Rattle.sets.specs.Truth.{_&&_, choose}
 use Rattle.sets.specs.TruthLaws.{Is, on, off, is, clash, choose-on, choose-off, and-l, and-r, and-cases}
 use Rattle.sets.specs.TruthLaws.{off-by, same-on, same-refl, below-mk, below-not, le-or}
-use Rattle.global_data.specs.declared.Entry.the-variants.{Absent}
 use Rattle.global_data.specs.GlobalData.{portionsOf, dietOf, valueIn, entryOf}
 use Rattle.global_data.specs.Laws.{entry-present, not-both, orElse-absent, orElse-value}
-use Rattle.bench.specs.declared.Bench.{Bench}
 use Rattle.bench.specs.declared.Event.{Event}
 use Rattle.bench.specs.declared.Event.the-variants.{Start, Send, Arrive, Close, Crash, Suspect}
-use Rattle.bench.specs.State.{processAt, sentAt, openedOf}
+use Rattle.bench.specs.State.{processAt, sentAt}
 use Rattle.bench.specs.SoundLaws.{sound-on}
 use Rattle.bench.specs.RecordLaws.{inRange}
 use Rattle.bench.specs.RefuseLaws.{passes-on}

@@ -32,7 +32,7 @@ use Rattle.bench.specs.Calls.{refused, answerOf, afterBy, openOf, tallyBy, ende
 use Rattle.bench.specs.OldRules.{Form, rulesOf}
 use Rattle.bench.specs.OldRulesLaws.{Taken, taken, untaken}
 use Rattle.bench.specs.Carry.{carryOf}
-use Rattle.agreement.specs.statement.History.{Call, one, run, carry, stepped, ran, carried, afterCall, formAfter}
+use Rattle.agreement.specs.statement.History.{Call, one, run, carry, stepped, ran, afterCall, formAfter}
 use Rattle.agreement.specs.statement.History.{givenBy, afterCallsFrom, answersFrom, afterCalls, answers}
 use Rattle.agreement.specs.statement.History.{afterEvents, afterHistory}
 use Rattle.agreement.specs.statement.History.{eventIn, refusedAfter, addRecord, addRun, addCall}
@@ -337,7 +337,7 @@ module _ (n t : ℕ) where
 
   -- ---- the whole list, from the opened bench
   module _ (o : opens n t ≡ true) (f : Form) (calls : List Call) where
-    pub start : openOf n t .bench ≡ afterHistory n t []
+    start : openOf n t .bench ≡ afterHistory n t []
     unfolding openOf afterHistory afterEvents
     start = ap (λ (s : Opened). s .bench) (choose-on _ _ _ o)
 

@@ -7,16 +7,15 @@ use mathlib.Core.Bool.{Bool, true, false}
 use Prim.Native.Nat.{ℕ, zero, suc}
 use lib.ListN.{length, take, drop}
 use Rattle.sets.specs.Lists.{everyIn}
-use Rattle.sets.specs.Truth.{_&&_, same, choose}
+use Rattle.sets.specs.Truth.{same, choose}
 use Rattle.sets.specs.TruthLaws.{and-l, and-r, and-mk}
 use Rattle.bench.specs.declared.Bench.{Bench}
 use Rattle.bench.specs.declared.Ended.{Ended}
 use Rattle.bench.specs.declared.Event.{Event}
 use Rattle.bench.specs.declared.Decoded.{Decoded}
 use Rattle.bench.specs.declared.Decoded.the-variants.{Got, Refused}
-use Rattle.bench.specs.Record.{decodeOf}
-use Rattle.bench.specs.OldRules.{Form, before, now, rulesOf}
-use Rattle.bench.specs.Carry.{carryRefusal, carriedForm, plainStart, plainRecord, plainSchedule}
+use Rattle.bench.specs.OldRules.{Form, now, rulesOf}
+use Rattle.bench.specs.Carry.{carryRefusal, carriedForm, plainStart, plainRecord}
 use Rattle.bench.specs.RewriteLaws.{Each, each-first, each-rest, schedule-on, rewritten-record, rewritten-schedule}
 use Rattle.bench.specs.RewriteLaws.{plain-read, plain-decodes, plain-rules, plain-run}
 use Rattle.agreement.specs.statement.History.{Call, one, run, carry, ran, afterCall, formAfter, givenBy}

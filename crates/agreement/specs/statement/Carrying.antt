@@ -5,7 +5,6 @@ use mathlib.Core.Path.{_≡_}
 use mathlib.Core.List.{List, _∷_, _++_, map}
 use mathlib.Core.Bool.{Bool, true}
 use Prim.Native.Nat.{ℕ}
-use Rattle.sets.specs.Lists.{everyIn}
 use Rattle.bench.specs.declared.Answer.the-variants.{Accepted}
 use Rattle.bench.specs.OldRules.{before, now}
 use Rattle.bench.specs.Carry.{carryOf, plainRecord, plainSchedule, rewrittenRecord, rewrittenSchedule}

@@ -27,7 +27,7 @@ use Rattle.bench.specs.Refuse.{actor, isCrash}
 use Rattle.bench.specs.Effect.{effect, rowsAt}
 use Rattle.bench.specs.Closings.{closingAt, lastOf}
 use Rattle.bench.specs.Calls.{refused, answerOf, openOf, stepBy, tallyBy, runBy}
-use Rattle.bench.specs.OldRules.{Form, before, now, rulesOf}
+use Rattle.bench.specs.OldRules.{Form, rulesOf}
 use Rattle.bench.specs.Carry.{carryRefusal, carryOf, carriedForm}
 
 -- ---- the calls of a list: one record, with any bytes and any tally; a run, with any bytes and any budget; or carrying

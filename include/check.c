@@ -288,6 +288,42 @@ static int diet_decides(void) {
     return 0;
 }
 
+/* Carries `other` over, and gives the answer, or 99 where a byte of it has changed. */
+static uint32_t carried(void) {
+    bench = other;
+    uint32_t answer = gerzulan_bench_carry(&other);
+    return memcmp(&other, &bench, sizeof other) == 0 ? answer : 99;
+}
+
+/* Case 4 with a value of 65,535, carried over after its fifth record. Then 65,536 under an absent entry, under a present one of a row that
+ * no round has opened, in the estimate of a crashed process; and a damaged bench, which is refused by 2 first. */
+static int carry_over(void) {
+    static const uint8_t most[8] = {1, 2, 0, 0, 0xFF, 0xFF};
+    struct gerzulan_counters tally = {0, 0, 0};
+    uint32_t out[2] = {7, 7};
+    CHECK(gerzulan_bench_open(&other, 2, 1) == 0 && carried() == 0);
+    CHECK(step(&other, records[0], 8, &tally) == 0 && step(&other, most, 8, &tally) == 0);
+    CHECK(run(&other, records[2], 3 * 8, 9) == GERZULAN_EMPTY && carried() == 0);
+    CHECK(run(&other, records[5], 4 * 8, 9) == GERZULAN_EMPTY && run(&other, records[10], 2 * 8, 9) == GERZULAN_EMPTY);
+    CHECK(gerzulan_bench_global_data(&other, 1, out, 2) == 3 && out[0] == 40 && out[1] == 65535 && carried() == 0);
+    other.sent[255].values[3] = 65536;
+    CHECK(carried() == 0);
+    other.sent[255].present = 2;
+    CHECK(carried() == 0);
+    other.sent[255].values[1] = 65535;
+    CHECK(carried() == 0);
+    other.sent[255].values[1] = 65536;
+    CHECK(carried() == 16);
+    other.sent[255].present = 0;
+    other.processes[1].estimate.values[1] = 65536;
+    CHECK(other.crashed == 2 && carried() == 16);
+    other.processes[1].round = 3;
+    CHECK(carried() == 2);
+    other.processes[1].estimate.values[1] = 65535;
+    CHECK(carried() == 2);
+    return 0;
+}
+
 /* What is given to the four aggregates, and what they have written. */
 static uint64_t sum;
 static uint8_t going, leader;
@@ -380,7 +416,7 @@ static int calendar(void) {
 
 int main(void) {
     if (one_by_one() || by_runs() || agreed() || last_round() || list_in_order() || reads() || totals() ||
-        decided_byte() || diet_of_starts() || diet_decides() || diet_of_aggregates() || calendar()) {
+        decided_byte() || diet_of_starts() || diet_decides() || carry_over() || diet_of_aggregates() || calendar()) {
         return 1;
     }
     puts("ok");

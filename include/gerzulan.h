@@ -3,7 +3,7 @@
  * The host holds a bench and lends it. No call asks anything of the values: a damaged bench is refused, and `decided` may be any byte. But
  * each pointer is to initialised memory of its type (a bench of all zero will do for `gerzulan_bench_open`), a length is that of the slice
  * before it, and what is lent to be written overlaps nothing else that is given. A refusal leaves all that is lent untouched, but for the
- * tally, a step's closing and a run's progress. Refusals have the numbers of document 01, 1 to 12, and of the requests, 13 to 15. */
+ * tally, a step's closing and a run's progress. Refusals have the numbers of document 01, 1 to 12, and of the requests, 13 to 16. */
 #ifndef GERZULAN_H
 #define GERZULAN_H
 
@@ -71,6 +71,12 @@ struct gerzulan_progress {
 
 /* Opens a bench in place of *bench. 0, or 1 with *bench as it was. */
 uint32_t gerzulan_bench_open(struct gerzulan_bench *bench, uint8_t n, uint8_t t);
+
+/* Carries over a bench that was begun before diet portions, when a value was one number of 32 bits: what was held and sent then are portions
+ * from now on, and no diet portions. 0; or 2, a damaged bench; or 16, a value above 65,535 is held by a process, crashed or not, or was sent.
+ * No byte of *bench changes in any case. For 0 it goes on by the calls below; for 16 it must not, since they would read other numbers in its
+ * words. A bench is carried once: one in which a process has diet portions is refused by 16. */
+uint32_t gerzulan_bench_carry(struct gerzulan_bench *bench);
 
 /* One record, with the tally. 0, or its refusal, 2 to 9 or 15, with *bench as it was. 15, after 5 and before 6, is of a start whose diet
  * portions exceed its portions; it looks at the record alone, and a bench that holds such an entry is stepped like any other. *closing is

@@ -15,6 +15,7 @@ use bench::Cause;
 use bench::Listed;
 use bench::Shown;
 use calendar::week;
+use carry::carry;
 use decision::global_data;
 use one_record::step_bytes;
 use process::Closing;
@@ -147,6 +148,13 @@ fn list(b: Bench) {
     }
 }
 
+// The bench is as it was in any case.
+fn carrying(b: Bench) {
+    let c = carry(b);
+    let a = c.answer;
+    say_answer(a);
+}
+
 fn say_total(a: TotalAnswer) {
     match a {
         TotalAnswer::Sum(v) => {
@@ -239,6 +247,7 @@ fn look(b: Bench, letter: u8, first: u8, second: u8, third: u8) {
         b'p' => process(b, first),
         b'd' => data(b, first, second as usize),
         b'i' => list(b),
+        b'c' => carrying(b),
         b't' => sum(first, second as u16, third as usize),
         b'g' => greatest(first, second as u16),
         b'a' => aggregate(first, second as u16, third, &[5, 6, 7]),

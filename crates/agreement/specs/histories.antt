@@ -6,6 +6,7 @@ pub mod OneEvent
 pub mod HistoryMatchesBench
 pub mod AbsentCrashed
 pub mod GlobalDataCall
+pub mod Contracts
 pub mod PlainStarts
 pub mod RewrittenCalls
 pub mod AcrossCarrying

@@ -17,7 +17,7 @@ use Rattle.agreement.specs.statement.History.{Call, carry, afterCall, fo
 use Rattle.agreement.specs.statement.History.{afterCalls, formLeft, afterEvents, afterHistory, addCall}
 use Rattle.agreement.specs.statement.History.{historyFrom, history}
 use Rattle.agreement.specs.histories.Replay.{bench-call, sound-call, left-is}
-use Rattle.agreement.specs.histories.RewrittenCalls.{now-stays}
+use Rattle.agreement.specs.histories.Contracts.{now-from}
 
 -- ---- one list after another
 left-append : (f : Form) (s : Bench) (a b : List Call)
@@ -43,16 +43,10 @@ history-append n t f h (c ∷ a) b o =
     history-append n t f′ h′ a b (sound-call n t f h c o)
     ∙ ap (λ (s : Bench). historyFrom (formFrom f′ s a) n t (historyFrom f′ n t h′ a) b) (sym (bench-call n t f h c o))
 
--- ---- an accepted carrying makes the form the new one, and it stays
+-- ---- an accepted carrying makes the form the new one
 carry-now : (f : Form) (s : Bench) → carryRefusal s ≡ 0 → formAfter f carry s ≡ now
 unfolding formAfter carriedForm
 carry-now f s z = choose-on _ _ _ (same-mk _ 0 z)
-
-now-left : (s : Bench) (calls : List Call) → formFrom now s calls ≡ now
-unfolding formFrom
-now-left s [] = refl
-now-left s (c ∷ calls) =
-    ap (λ (f : Form). formFrom f (afterCall now c s) calls) (now-stays c s) ∙ now-left (afterCall now c s) calls
 
 module _ (n t : ℕ) (o : opens n t ≡ true) (old new : List Call) (z : carryRefusal (afterCalls before n t old) ≡ 0) where
   pub form-across : formLeft before n t (old ++ (carry ∷ new)) ≡ now
@@ -60,7 +54,7 @@ module _ (n t : ℕ) (o : opens n t ≡ true) (old new : List Call) (z : carryRe
   form-across =
       form-append before (openOf n t .bench) old (carry ∷ new)
       ∙ ap (λ (f : Form). formFrom f (afterCalls before n t old) new) (carry-now _ _ z)
-      ∙ now-left (afterCalls before n t old) new
+      ∙ now-from (afterCalls before n t old) new
 
   pub bench-across : afterCalls before n t (old ++ (carry ∷ new)) ≡ afterCallsFrom now (afterCalls before n t old) new
   unfolding afterCalls afterCallsFrom afterCall carryOf

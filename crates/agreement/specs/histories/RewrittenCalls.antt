@@ -15,13 +15,14 @@ use Rattle.bench.specs.declared.Event.{Event}
 use Rattle.bench.specs.declared.Decoded.{Decoded}
 use Rattle.bench.specs.declared.Decoded.the-variants.{Got, Refused}
 use Rattle.bench.specs.OldRules.{Form, now, rulesOf}
-use Rattle.bench.specs.Carry.{carryRefusal, carriedForm, plainStart, plainRecord}
+use Rattle.bench.specs.Carry.{plainStart, plainRecord}
 use Rattle.bench.specs.RewriteLaws.{Each, each-first, each-rest, schedule-on, rewritten-record, rewritten-schedule}
 use Rattle.bench.specs.RewriteLaws.{plain-read, plain-decodes, plain-rules, plain-run}
 use Rattle.agreement.specs.statement.History.{Call, one, run, carry, ran, afterCall, formAfter, givenBy}
 use Rattle.agreement.specs.statement.History.{afterCallsFrom, answersFrom, afterHistory, eventIn, refusedAfter}
 use Rattle.agreement.specs.statement.History.{addRecord, addRun, addCall, historyFrom, history}
 use Rattle.agreement.specs.statement.Carrying.{plainCall, rewritten}
+use Rattle.agreement.specs.histories.Contracts.{now-stays}
 use Rattle.agreement.specs.histories.PlainStarts.{every-append}
 
 -- ---- rewritten they are as they were
@@ -54,17 +55,6 @@ call-alike f (run bytes budget) s p =
       given = ap (λ (E : Ended). ran (E .accepted) (E .cause) (E .closing) (drop (E .taken) bytes)) e;
     }
 call-alike f carry s p = record { bench = refl; given = refl }
-
--- a bench of now stays one
-pub now-stays : (c : Call) (s : Bench) → formAfter now c s ≡ now
-unfolding formAfter carriedForm choose
-now-stays (one bytes tally) s = refl
-now-stays (run bytes budget) s = refl
-now-stays carry s = go (same (carryRefusal s) 0)
-  where
-    go : (b : Bool) → choose b now now ≡ now
-    go true = refl
-    go false = refl
 
 pub record AlikeFrom (f : Form) (s : Bench) (calls : List Call) : Type 0 where
   pub bench : afterCallsFrom f s calls ≡ afterCallsFrom now s calls

@@ -27,7 +27,8 @@ use Rattle.bench.specs.Sound.{opens}
 use Rattle.bench.specs.SoundLaws.{sound-on}
 use Rattle.bench.specs.Refuse.{refusal}
 use Rattle.bench.specs.Calls.{refused, answerOf, openOf, wordAt, showOf, shownIn}
-use Rattle.agreement.specs.statement.History.{Call, carry, afterCalls, formLeft, answers, history, afterHistory, undecided}
+use Rattle.agreement.specs.statement.History.{Call, carry, afterCalls, formLeft, answers, history}
+use Rattle.agreement.specs.statement.History.{afterHistory, undecided}
 use Rattle.agreement.specs.statement.History.{decidedOn, outcome, isDecided, beforeDecision}
 use Rattle.agreement.specs.statement.History.{startedWith, crashedIn, crashCount, rounds}
 use Rattle.bench.specs.OldRules.{Form, before, now}
@@ -201,14 +202,16 @@ demand3 f n t calls o =
       last-round = λ x l. last-round-of n t h A x;
       early-round = λ x l. omega (arith, early-round-of n t h A x);
       records = omega (arith, records-of n t h A);
-      quiet-end = λ r. quiet-of n t h A (λ bytes b k. refused-now (formLeft f n t calls) _ bytes (rw L at (r bytes b k)));
+      quiet-end =
+          λ r. quiet-of n t h A (λ bytes b k. refused-now (formLeft f n t calls) _ bytes (rw L at (r bytes b k)));
       carrying = rw L (carry-history n t h (A .along-it) (A .told) (A .starts));
     }
 
 carriedAs : Answer → Bench → Carried
 carriedAs a s = record { answer = a; bench = s }
 
--- ---- carrying a running week over (request C-17): the calls do the same on a new bench, and what they left is accepted
+-- ---- carrying a running week over (request C-17): the calls do the same on a new bench, and what they left is
+-- accepted
 pub carrying : (n t : ℕ) (calls : List Call) → opens n t ≡ true → everyIn plainCall calls ≡ true → Carrying n t calls
 unfolding afterCalls answers carryOf answerOf carriedAs
 carrying n t calls o p =
@@ -218,7 +221,8 @@ carrying n t calls o p =
     record {
       carries =
           ap₂ carriedAs
-          (choose-on _ _ _ (number-same (carryRefusal (afterCalls before n t calls)) 0 z)) (A .bench ∙ ap (afterCalls now n t) w);
+          (choose-on _ _ _ (number-same (carryRefusal (afterCalls before n t calls)) 0 z))
+          (A .bench ∙ ap (afterCalls now n t) w);
       given = A .given ∙ ap (answers now n t) w;
     }
 

@@ -1,6 +1,6 @@
--- Carrying a bench of before request C-15 over to the new form, with diet portions 0 (request C-17): refused by 2, then
--- by 16 where it holds a value that portions have no room for. A word at most 65,535 already is those portions and no
--- diet portions (`plain-word`), so carrying changes no word.
+-- Carrying a bench of before request C-15 over to the new form, with diet portions 0 (request C-17): refused by 2,
+-- then by 16 where it holds a value that portions have no room for. A word at most 65,535 already is those portions
+-- and no diet portions (`plain-word`), so carrying changes no word.
 use mathlib.Core.List.{List, [], _∷_, _++_}
 use mathlib.Core.Bool.{Bool, true}
 use Prim.Native.Nat.{ℕ, zero, suc, _/_}

@@ -138,7 +138,8 @@ unfolding plainBench plainProcess
 bench-on s e =
     record {
       estimate =
-          λ a. plain-on _ (every-on plainProcess noProcess (s .processes) (plain-mk noData plain-outside) (and-l _ _ e) a);
+          λ a. plain-on _
+          (every-on plainProcess noProcess (s .processes) (plain-mk noData plain-outside) (and-l _ _ e) a);
       sent = λ i. plain-on _ (every-on plainData noData (s .sent) (plain-mk noData plain-outside) (and-r _ _ e) i);
     }
 

@@ -1,5 +1,5 @@
--- The starred cases 1 to 8 of document 01, starts of the requests and weeks that are carried over, as one table, and one
--- theorem that the definitions give each of them its answers, how its rounds ended (request C-11) and its end.
+-- The starred cases 1 to 8 of document 01, starts of the requests and weeks that are carried over, as one table, and
+-- one theorem that the definitions give each of them its answers, how its rounds ended (request C-11) and its end.
 use mathlib.Core.Path.{_≡_, refl}
 use mathlib.Core.List.{List, [], _∷_}
 use mathlib.Core.Bool.{Bool, true, false}
@@ -447,8 +447,8 @@ unfolding bytes startWith start send arrive close crash suspect answersOf closin
     closingOf closingNumber opensNext decidesOf owedOf decideOf advanceOf closeOf adoptOf messageOf sendOf suspectOf
     processAt sentAt transitAt crashedAt withProcess withSent withTransit withCrashed openedOf opens everyIn within
     soundData soundProcess soundOf
-    wordOf oneTo usesB usesR usesValue fieldB fieldR fieldValue fields messageFrom eventOf partsOf valueOf readOf startFits
-    checkDiet decodeOf check numberOf actor isCrash passes7 passes8 passes9 refuses refusesDecoded refusal
+    wordOf oneTo usesB usesR usesValue fieldB fieldR fieldValue fields messageFrom eventOf partsOf valueOf readOf
+    startFits checkDiet decodeOf check numberOf actor isCrash passes7 passes8 passes9 refuses refusesDecoded refusal
     opensRound rowsAt sends arrives closesAs effect effectDecoded effectOf afterRecord
     closingAt closingDecoded closingIn isNone oldEntryOf oldSameEntry oldSameTo oldAgreed oldClosingOf oldCloseOf
     oldEffect oldClosingAt oldRefusal plainData plainProcess plainBench carryRefusal

@@ -1,5 +1,5 @@
--- The rules before request C-15 beside those of now. A word compared as one number, or as portions and diet portions, is
--- compared the same (`same-words`), so that an event does the same by both; they differ in refusal 15 alone.
+-- The rules before request C-15 beside those of now. A word compared as one number, or as portions and diet portions,
+-- is compared the same (`same-words`), so that an event does the same by both; they differ in refusal 15 alone.
 -- And by either an accepted record is that of an event in range that is let through, with its effect.
 use mathlib.Core.Path.{_≡_, refl, sym, ap, ap₂, fun-ext, _∙_}
 use mathlib.Core.Logic.{_≢_}
@@ -74,7 +74,8 @@ unfolding oldEffect effect
 old-effect (Start a v) s = refl
 old-effect (Send a b) s = refl
 old-effect (Arrive a b m) s = refl
-old-effect (Close a) s = ap (closesAs s a) (old-close (s .n) (s .t) a (rowsAt s (processAt s a .round)) (processAt s a))
+old-effect (Close a) s =
+    ap (closesAs s a) (old-close (s .n) (s .t) a (rowsAt s (processAt s a .round)) (processAt s a))
 old-effect (Crash a) s = refl
 old-effect (Suspect a b) s = refl
 

@@ -1,6 +1,6 @@
--- Records without a value above 65,535 are the same for the rules before request C-15 and for those of now: rewritten with
--- diet portions 0 they are as they were, since the last two bytes are 0 already; no start among them is refused by 15;
--- and so whatever is stepped by them is stepped alike. A run by induction on its budget.
+-- Records without a value above 65,535 are the same for the rules before request C-15 and for those of now: rewritten
+-- with diet portions 0 they are as they were, since the last two bytes are 0 already; no start among them is refused
+-- by 15; and so whatever is stepped by them is stepped alike. A run by induction on its budget.
 use mathlib.Core.Path.{_≡_, refl, sym, ap, ap₂, fun-ext, _∙_}
 use mathlib.Core.List.{List, [], _∷_, _++_}
 use mathlib.Core.Bool.{Bool, true, false}
@@ -102,7 +102,8 @@ rewritten-schedule l p = rewritten-to (length l / 8) l (schedule-on l p)
 
 -- ---- a start among them is not refused by 15
 others-plain : (a b : ℕ) (m : Message) (x y z u : Bool)
-    → plainStart (choose x (Send a b) (choose y (Arrive a b m) (choose z (Close a) (choose u (Crash a) (Suspect a b)))))
+    → plainStart
+    (choose x (Send a b) (choose y (Arrive a b m) (choose z (Close a) (choose u (Crash a) (Suspect a b)))))
     ≡ true
 unfolding plainStart choose
 others-plain a b m true y z u = refl
@@ -180,13 +181,13 @@ module _ (R S : Rules) (P : List ℕ → Type 0) (alike : (s : Bench) (l : List 
         A .refuses,
         A .does,
         A .ends,
-        runs-alike budget (drop 8 l) (S .does s (take 8 l)) (accepted + 1) (lastOf c (S .ends s (take 8 l))) (taken + 8)
-            (rest l p),
+        runs-alike budget (drop 8 l) (S .does s (take 8 l)) (accepted + 1) (lastOf c (S .ends s (take 8 l)))
+            (taken + 8) (rest l p),
       )
 
 pub plain-run : (f : Form) (budget : ℕ) (l : List ℕ) (s : Bench) → plainSchedule l ≡ true
     → runBy (rulesOf f) budget l s ≡ runBy rules budget l s
 plain-run f budget l s p =
     ap (λ (e : Ended). choose (soundOf s) e (endedOf s 0 (RefusedRun (refused 2)) None 0))
-    (runs-alike (rulesOf f) rules Each (λ s l q. plain-rules f s (take 8 l) (each-first l q)) each-rest budget l s 0 None 0
-    (schedule-on l p))
+    (runs-alike (rulesOf f) rules Each (λ s l q. plain-rules f s (take 8 l) (each-first l q)) each-rest budget l s 0
+    None 0 (schedule-on l p))

@@ -28,7 +28,8 @@ use Rattle.bench.specs.SoundLaws.{sound-step}
 
 -- ---- the turns of the loop, at any budget, bytes, bench, numbers and closing so far
 module _ (l : List ℕ) (s : Bench) (accepted : ℕ) (c : Closing) (taken : ℕ) where
-  pub run-empty : (budget : ℕ) → length l ≡ 0 → runFrom rules budget l s accepted c taken ≡ endedOf s accepted Empty c taken
+  pub run-empty : (budget : ℕ) → length l ≡ 0
+      → runFrom rules budget l s accepted c taken ≡ endedOf s accepted Empty c taken
   unfolding runFrom
   run-empty zero e = ap (λ x. endedOf s accepted x c taken) (choose-on _ _ _ (same-mk _ _ e))
   run-empty (suc budget) e = choose-on _ _ _ (same-mk _ _ e)
@@ -40,7 +41,8 @@ module _ (l : List ℕ) (s : Bench) (accepted : ℕ) (c : Closing) (taken : ℕ)
   run-spent (suc budget) h z = absurd (omega arith)
 
   pub run-refused : (budget : ℕ) → length l ≢ 0 → budget ≢ 0 → refusal s (take 8 l) ≢ 0
-      → runFrom rules budget l s accepted c taken ≡ endedOf s accepted (Refused (refused (refusal s (take 8 l)))) c taken
+      → runFrom rules budget l s accepted c taken
+      ≡ endedOf s accepted (Refused (refused (refusal s (take 8 l)))) c taken
   unfolding runFrom
   run-refused zero h b r = absurd (b refl)
   run-refused (suc budget) h b r = choose-off _ _ _ (same-off _ _ h) ∙ choose-off _ _ _ (same-off _ _ r)

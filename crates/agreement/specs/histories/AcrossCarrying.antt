@@ -1,6 +1,6 @@
--- A list of calls after another: what the two leave and add is what the second does where the first came to, by the rules
--- of the form that it then has. With an accepted carrying between them those are the rules of now. By induction on the
--- first.
+-- A list of calls after another: what the two leave and add is what the second does where the first came to, by the
+-- rules of the form that it then has. With an accepted carrying between them those are the rules of now. By induction
+-- on the first.
 use mathlib.Core.Path.{_≡_, refl, sym, ap, _∙_}
 use mathlib.Core.List.{List, [], _∷_, _++_}
 use mathlib.Core.Bool.{true}
@@ -48,7 +48,8 @@ carry-now : (f : Form) (s : Bench) → carryRefusal s ≡ 0 → formAfter f carr
 unfolding formAfter carriedForm
 carry-now f s z = choose-on _ _ _ (same-mk _ 0 z)
 
-module _ (n t : ℕ) (o : opens n t ≡ true) (old new : List Call) (z : carryRefusal (afterCalls before n t old) ≡ 0) where
+module _ (n t : ℕ) (o : opens n t ≡ true) (old new : List Call)
+    (z : carryRefusal (afterCalls before n t old) ≡ 0) where
   pub form-across : formLeft before n t (old ++ (carry ∷ new)) ≡ now
   unfolding formLeft afterCalls formFrom afterCall carryOf
   form-across =

@@ -1,6 +1,6 @@
--- Carrying what a history left is refused by 16 exactly where one of its starts has a value above 65,535. Without one no
--- entry of the bench is above it, since every event keeps it so; one that was accepted is still what its process sent in
--- round 1. By induction along the history.
+-- Carrying what a history left is refused by 16 exactly where one of its starts has a value above 65,535. Without one
+-- no entry of the bench is above it, since every event keeps it so; one that was accepted is still what its process
+-- sent in round 1. By induction along the history.
 use mathlib.Core.Path.{_≡_, refl, sym, ap, _∙_}
 use mathlib.Core.List.{List, [], _∷_, _++_}
 use mathlib.Core.Bool.{Bool, true, false}
@@ -148,5 +148,7 @@ module _ (n t : ℕ) (h : List Event) (A : Along n t h) (T : Told n t h) (S : St
   carry-history = go (is (everyIn plainStart h))
     where
       go : Is (everyIn plainStart h) → carryRefusal (afterHistory n t h) ≡ choose (everyIn plainStart h) 0 16
-      go (on e) = carry-plain (afterHistory n t h) (A .sound) (bench-mk (afterHistory n t h) (S .plain e)) ∙ sym (choose-on _ _ _ e)
+      go (on e) =
+          carry-plain (afterHistory n t h) (A .sound) (bench-mk (afterHistory n t h) (S .plain e))
+          ∙ sym (choose-on _ _ _ e)
       go (off e) = carry-large (afterHistory n t h) (A .sound) (not-plain (S .large e)) ∙ sym (choose-off _ _ _ e)

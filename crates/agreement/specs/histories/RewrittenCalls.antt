@@ -1,6 +1,6 @@
--- Calls whose starts have values of at most 65,535 do the same, and give the same, on a bench of before request C-15 and
--- on one of now; rewritten with diet portions 0 they are as they were; and every start that they add to a history is
--- such a one. By induction on the calls, and a run on its budget.
+-- Calls whose starts have values of at most 65,535 do the same, and give the same, on a bench of before request C-15
+-- and on one of now; rewritten with diet portions 0 they are as they were; and every start that they add to a history
+-- is such a one. By induction on the calls, and a run on its budget.
 use mathlib.Core.Path.{_≡_, refl, sym, ap, ap₂, _∙_}
 use mathlib.Core.List.{List, [], _∷_, _++_, map, append-nil}
 use mathlib.Core.Bool.{Bool, true, false}

@@ -1,6 +1,6 @@
--- Carrying a running week over (request C-17), as two statements: over every list of calls on an opened bench of before
--- request C-15 whose starts have values of at most 65,535; and over every list of calls on one that is then carried, and
--- of calls after that. The theorems are in ../Theorem.antt.
+-- Carrying a running week over (request C-17), as two statements: over every list of calls on an opened bench of
+-- before request C-15 whose starts have values of at most 65,535; and over every list of calls on one that is then
+-- carried, and of calls after that. The theorems are in ../Theorem.antt.
 use mathlib.Core.Path.{_≡_}
 use mathlib.Core.List.{List, _∷_, _++_, map}
 use mathlib.Core.Bool.{Bool, true}
@@ -25,7 +25,8 @@ rewritten (run bytes budget) = run (rewrittenSchedule bytes) budget
 rewritten carry = carry
 
 pub record Carrying (n t : ℕ) (calls : List Call) : Type 0 where
-  -- carrying what they left is accepted, and gives the bench that the same records, rewritten, give a new one opened alike
+  -- carrying what they left is accepted, and gives the bench that the same records, rewritten, give a new one opened
+  -- alike
   pub carries : carryOf (afterCalls before n t calls)
       ≡ record { answer = Accepted; bench = afterCalls now n t (map rewritten calls) }
   -- and every call gave the same

@@ -56,5 +56,6 @@ pub record Demand3 (f : Form) (n t : ℕ) (calls : List Call) : Type 0 where
       → rulesOf (formLeft f n t calls) .refuses (afterCalls f n t calls) bytes ≢ 0)
       → (x : ℕ) → x < n → crashedIn (history f n t calls) x ≡ false
       → isDecided (outcome n t (history f n t calls) x) ≡ true
-  -- i: carrying what is left (request C-17): refused by 16 exactly where a start in the history has a value above 65,535
+  -- i: carrying what is left (request C-17): refused by 16 exactly where a start in the history has a value above
+  -- 65,535
   pub carrying : carryRefusal (afterCalls f n t calls) ≡ choose (everyIn plainStart (history f n t calls)) 0 16

@@ -30,8 +30,8 @@ use Rattle.bench.specs.Calls.{refused, answerOf, openOf, stepBy, tallyBy, runBy
 use Rattle.bench.specs.OldRules.{Form, rulesOf}
 use Rattle.bench.specs.Carry.{carryRefusal, carryOf, carriedForm}
 
--- ---- the calls of a list: one record, with any bytes and any tally; a run, with any bytes and any budget; or carrying
--- the bench over (request C-17)
+-- ---- the calls of a list: one record, with any bytes and any tally; a run, with any bytes and any budget; or
+-- carrying the bench over (request C-17)
 pub data Call : Type 0 where
   one : List ℕ → Counters → Call
   run : List ℕ → ℕ → Call
@@ -44,8 +44,8 @@ pub data Given : Type 0 where
   ran : ℕ → Cause → Closing → List ℕ → Given
   carried : Answer → Given
 
--- ---- the calls as the contracts have them, one after the other from the opened bench, by the rules of its form: `now`,
--- or `before` request C-15 until a carrying is accepted
+-- ---- the calls as the contracts have them, one after the other from the opened bench, by the rules of its form:
+-- `now`, or `before` request C-15 until a carrying is accepted
 unfoldable pub afterCall : Form → Call → Bench → Bench
 afterCall f (one bytes tally) s = stepBy (rulesOf f) s bytes .bench
 afterCall f (run bytes budget) s = runBy (rulesOf f) budget bytes s .bench

@@ -408,3 +408,56 @@ try own-row-read-too src/step.rs "$each" 'for m in members(next) {'
 try rows-of-all-read src/step.rs "$each" 'for m in members(self.everyone() & !bit(a)) {'
 try set-test-with-the-current-set src/step.rs \
     'let mut settled = previous == next;' 'let mut settled = previous == self.processes[a].current;'
+
+# Carrying a bench from before diet portions over.
+carry='pub fn carry(&mut self) -> Result<&mut Bench, Refusal> {'
+counts='self.data().try_for_each(check_counts)?;'
+large='if members(data.present).any(|i| data.values[i] > MOST) {'
+estimates='let estimates = self.0.processes.iter().map(|p| &p.estimate);'
+rows='estimates.chain(&self.0.sent)'
+# of NAME CONDITION: only estimates of such processes, i counted from 0, are looked at.
+of() {
+    try "$1" src/old.rs "$estimates" \
+        "let estimates = self.0.processes.iter().enumerate().filter(|&(i, p)| { let _ = (i, p); $2 }).map(|(_, p)| &p.estimate);"
+}
+# sent NAME CONDITION: only rows of such processes a, counted from 0, and rounds r, from 1, are looked at.
+sent() {
+    try "$1" src/old.rs "$rows" \
+        "estimates.chain(self.0.sent.iter().enumerate().filter(|(i, _)| { let (a, r) = (i / 16, i % 16 + 1); let _ = (a, r); $2 }).map(|(_, data)| data))"
+}
+try sixteen-before-2 src/old.rs "$carry" "$carry $counts"
+try rows-unseen src/old.rs "$rows" 'estimates'
+try estimates-unseen src/old.rs "$rows" '{ let _ = estimates; self.0.sent.iter() }'
+try word-under-absent-counted src/old.rs "$large" 'if data.values.iter().any(|&word| word > MOST) {'
+try sixteen-from-65537-on src/old.rs "$large" 'if members(data.present).any(|i| data.values[i] > MOST + 1) {'
+try sixteen-from-65535-on src/old.rs "$large" 'if members(data.present).any(|i| data.values[i] >= MOST) {'
+try sixteen-for-bad-values-alone src/old.rs "$large" \
+    'if members(data.present).any(|i| data.values[i] > MOST && data.value(i).check().is_err()) {'
+try sixteen-of-the-first-entry-alone src/old.rs "$large" \
+    'if members(data.present).take(1).any(|i| data.values[i] > MOST) {'
+of estimates-of-the-running-alone '!self.0.has_crashed(i)'
+of estimates-of-the-started-alone 'p.round != 0'
+of estimates-of-the-undecided-alone '!p.has_decided()'
+of estimates-of-n-alone 'i < self.0.n as usize'
+sent rows-of-opened-rounds-alone 'r <= self.0.processes[a].round as usize'
+sent rows-of-rounds-of-the-bench-alone 'r <= self.0.t as usize + 1'
+sent rows-of-the-running-alone '!self.0.has_crashed(a)'
+sent rows-of-n-alone 'a < self.0.n as usize'
+try changed-on-refusal src/old.rs "$counts" \
+    'self.data_mut().try_for_each(|data| { let found = check_counts(data); to_portions(data); found })?;'
+portions='data.set(i, Value::new(data.values[i] as u16, 0));'
+try carried-as-diet-too src/old.rs "$portions" 'data.set(i, Value::new(data.values[i] as u16, data.values[i] as u16));'
+try carried-as-diet src/old.rs "$portions" 'data.set(i, Value::new(0, data.values[i] as u16));'
+try cleared-under-absent src/old.rs \
+    'for i in members(data.present) {' 'members(!data.present).for_each(|i| data.values[i] = 0); for i in members(data.present) {'
+try rows-not-carried src/old.rs \
+    'self.data_mut().for_each(to_portions);' 'self.data_mut().for_each(to_portions); self.0.sent = [GlobalData::ABSENT; 256];'
+try transit-not-carried src/old.rs \
+    'self.data_mut().for_each(to_portions);' 'self.data_mut().for_each(to_portions); self.0.in_transit = [0; 272];'
+try crashes-not-carried src/old.rs \
+    'self.data_mut().for_each(to_portions);' 'self.data_mut().for_each(to_portions); self.0.crashed = 0;'
+diet='Err(Refusal::Diet) => start(bench, Record::read(record)?),'
+try fifteen-before-diet-portions src/old.rs "$diet" 'Err(Refusal::Diet) => { let _ = start; let _ = Record::read; Err(Refusal::Diet) }'
+try count-cut-to-16-bits src/old.rs \
+    'bench.start(a, record.value)?;' 'bench.start(a, Value::new(record.value.portions, 0))?;'
+try six-unchecked-before-diet-portions src/old.rs 'if bench.has_crashed(a) {' 'if false {'

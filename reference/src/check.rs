@@ -2,7 +2,7 @@
 
 use crate::gen::{well_formed, Adversary};
 use crate::layout::{bit, members};
-use crate::{Bench, Closing, GlobalData, Record};
+use crate::{Bench, Closing, GlobalData, Record, Refusal};
 
 /// What has been broken, in words.
 pub type Broken = String;
@@ -136,14 +136,23 @@ pub fn is_quiet(bench: &Bench) -> bool {
 
 /// One random schedule to its quiet end, with every check; gives the records accepted.
 pub fn random_schedule(n: u8, t: u8, seed: u64) -> Result<usize, Broken> {
+    random_schedule_by(n, t, seed, |bench, record| bench.step(&record.bytes()))
+}
+
+/// The same, where `step` takes each record and may first give a start another value.
+pub fn random_schedule_by(
+    n: u8,
+    t: u8,
+    seed: u64,
+    mut step: impl FnMut(&mut Bench, &mut Record) -> Result<Closing, Refusal>,
+) -> Result<usize, Broken> {
     let mut bench = Bench::open(n, t).expect("a good size");
     let mut history = History::new(n, t);
     let mut adversary = Adversary::new(seed);
     let named = |broken| format!("n {n}, t {t}, seed {seed}: {broken}");
-    while let Some(record) = adversary.accepted(&bench) {
+    while let Some(mut record) = adversary.accepted(&bench) {
         let round = bench.processes[record.a as usize - 1].round;
-        let closing = bench
-            .step(&record.bytes())
+        let closing = step(&mut bench, &mut record)
             .map_err(|refusal| named(format!("{record:?} refused with {}", refusal.number())))?;
         check_closing(record, round, closing, &bench).map_err(named)?;
         history.add(record, &bench).map_err(named)?;

@@ -2,6 +2,7 @@
 //! all that is lent. What differs panics with the seed and the place.
 
 use crate::check::check_closing;
+use crate::compare_carried::carried;
 use crate::gen::{self, Accepted, Adversary, Rng};
 use crate::layout::{bit, members};
 use crate::listed::{bits, by_rule, check_given, held, lengths, Call, Given};
@@ -20,16 +21,16 @@ use std::collections::BTreeMap;
 use std::fmt::Debug;
 
 /// One state on each side, and where the comparison stands.
-struct Pair {
-    proved: Bench,
-    plain: Bench,
+pub(crate) struct Pair {
+    pub(crate) proved: Bench,
+    pub(crate) plain: Bench,
     /// A schedule has led to the state.
-    reached: bool,
+    pub(crate) reached: bool,
     proved_tally: Counters,
     plain_tally: Counters,
-    place: String,
-    calls: usize,
-    met: Met,
+    pub(crate) place: String,
+    pub(crate) calls: usize,
+    pub(crate) met: Met,
 }
 
 impl Pair {
@@ -40,18 +41,18 @@ impl Pair {
     }
 
     /// From a new bench along a schedule.
-    fn opened(n: u8, t: u8, place: String) -> Pair {
+    pub(crate) fn opened(n: u8, t: u8, place: String) -> Pair {
         let bench = Bench::open(n, t).expect("a good size");
         Pair { reached: true, ..Pair::new(bench, place) }
     }
 
-    fn same<T: PartialEq + Debug>(&self, what: &str, proved: T, plain: T) {
+    pub(crate) fn same<T: PartialEq + Debug>(&self, what: &str, proved: T, plain: T) {
         if proved != plain {
             panic!("{}, call {}: {what}: proved {proved:?}, reference {plain:?}", self.place, self.calls);
         }
     }
 
-    fn same_state(&self, what: &str) {
+    pub(crate) fn same_state(&self, what: &str) {
         if self.proved == self.plain {
             return;
         }
@@ -63,7 +64,7 @@ impl Pair {
     }
 
     /// Both sides go on from this state.
-    fn put(&mut self, bench: &Bench) {
+    pub(crate) fn put(&mut self, bench: &Bench) {
         (self.proved, self.plain) = (*bench, *bench);
     }
 
@@ -105,7 +106,7 @@ impl Pair {
     }
 
     /// One record, with tallies that are sometimes near their end.
-    fn step(&mut self, record: &[u8], rng: &mut Rng) -> u8 {
+    pub(crate) fn step(&mut self, record: &[u8], rng: &mut Rng) -> u8 {
         if rng.percent(3) {
             let near = |rng: &mut Rng| u32::MAX - rng.below(2) as u32;
             let tally = Counters { accepted: near(rng), refused: near(rng), crashes: near(rng) };
@@ -217,7 +218,7 @@ impl Pair {
     }
 
     /// A schedule by runs of any budget. A refused record is passed over.
-    fn runs(&mut self, schedule: &[u8], rng: &mut Rng) {
+    pub(crate) fn runs(&mut self, schedule: &[u8], rng: &mut Rng) {
         let mut rest = schedule;
         while !rest.is_empty() {
             let budget = rng.pick(&[0, 1, 2, 7, 100, u32::MAX]);
@@ -408,7 +409,7 @@ impl Pair {
         self.met.closes.count(&Closed { bench, a, closing, new });
     }
 
-    fn reads(&mut self, rng: &mut Rng) {
+    pub(crate) fn reads(&mut self, rng: &mut Rng) {
         self.show(rng);
         self.list(rng.pick(&[0, 3, 100, 1000, 3 * 16 * 16 * 17]), rng);
         self.same_state("state after reading");
@@ -789,6 +790,9 @@ pub fn everything(seed: u64, schedules: u64) -> Met {
     for seed in seeds() {
         let early = gen::sizes().filter(|&(_, t)| t > 0);
         early.for_each(|(n, t)| met.add(&nearly_equal_closes(n, t, seed)));
+    }
+    for seed in seeds() {
+        gen::sizes().for_each(|(n, t)| met.add(&carried(n, t, seed)));
     }
     met
 }

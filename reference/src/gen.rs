@@ -279,8 +279,13 @@ const ENDLESS: usize = 100_000;
 /// A record that need not be accepted, on a bench of n and t.
 pub type Noisy = fn(&mut Rng, u8, u8) -> Vec<u8>;
 
-pub fn records_by(mut adversary: Adversary, n: u8, t: u8, noise: usize, noisy: Noisy) -> Vec<Vec<u8>> {
-    let mut bench = Bench::open(n, t).expect("a good size");
+pub fn records_by(adversary: Adversary, n: u8, t: u8, noise: usize, noisy: Noisy) -> Vec<Vec<u8>> {
+    records_from(Bench::open(n, t).expect("a good size"), adversary, noise, noisy)
+}
+
+/// The same from a bench that a schedule has reached.
+pub fn records_from(mut bench: Bench, mut adversary: Adversary, noise: usize, noisy: Noisy) -> Vec<Vec<u8>> {
+    let (n, t) = (bench.n, bench.t);
     let mut records = Vec::new();
     loop {
         assert!(records.len() < ENDLESS, "n {n}, t {t}: a schedule without end");

@@ -7,6 +7,7 @@ pub mod aggregates;
 pub mod calendar;
 pub mod calendar_text;
 pub mod calendars;
+pub mod carried;
 pub mod check;
 pub mod closes;
 pub mod closing;
@@ -14,6 +15,8 @@ pub mod closing;
 pub mod compare;
 #[cfg(feature = "proved")]
 pub mod compare_calendars;
+#[cfg(feature = "proved")]
+pub mod compare_carried;
 pub mod counters;
 pub mod date;
 pub mod explore;
@@ -23,6 +26,7 @@ pub mod layout;
 pub mod listed;
 #[cfg(feature = "proved")]
 pub mod met;
+pub mod old;
 #[cfg(feature = "proved")]
 pub mod proved;
 pub mod read;
@@ -40,6 +44,7 @@ pub mod values;
 pub use closing::Closing;
 pub use counters::Counters;
 pub use layout::{Bench, GlobalData, Process};
+pub use old::OldBench;
 pub use record::{Event, Message, Record};
 pub use refusal::Refusal;
 pub use run::{Cause, Ended};

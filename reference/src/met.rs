@@ -1,5 +1,6 @@
 //! What the differential test has met, so that it can tell what it has not.
 
+use crate::carried::{Across, Carryings};
 use crate::kinds::Kinds;
 use crate::layout::{all, members};
 use crate::listed::Listed;
@@ -12,13 +13,13 @@ use std::ops::Range;
 
 /// What was met: records given, answers by their number, 0 for none refused, closings, bytes in `decided`, totals,
 /// lists in transit, first of other states, then of those that a schedule reaches; of diet portions starts,
-/// aggregates, closes of nearly equal estimates, and what had too many of them; and the closes of any that are nearly
-/// equal.
+/// aggregates, closes of nearly equal estimates, and what had too many of them; the closes of any that are nearly
+/// equal; and benches carried over, of other states and of reached ones as the lists, and lists of calls across that.
 #[derive(Clone, Default, Debug)]
 pub struct Met {
     pub records: u64,
     pub accepted: u64,
-    pub answers: [u64; 16],
+    pub answers: [u64; 17],
     pub closings: Closings,
     pub bytes: Bytes,
     pub totals: Totals,
@@ -28,6 +29,8 @@ pub struct Met {
     pub deciding: Deciding,
     pub held: Held,
     pub closes: Closes,
+    pub carried: [Carryings; 2],
+    pub across: Across,
 }
 
 /// How often each of `HELD` was met.
@@ -253,7 +256,7 @@ impl Held {
 }
 
 /// The refusals of the calls on a bench and of the aggregates.
-const REFUSALS: [usize; 13] = [1, 2, 3, 4, 5, 6, 7, 8, 9, 10, 11, 12, 15];
+const REFUSALS: [usize; 14] = [1, 2, 3, 4, 5, 6, 7, 8, 9, 10, 11, 12, 15, 16];
 
 impl Met {
     pub fn answer(&mut self, number: u8) {
@@ -272,6 +275,8 @@ impl Met {
         self.deciding.add(&other.deciding);
         self.held.0.add(&other.held.0);
         self.closes.add(&other.closes);
+        self.carried.iter_mut().zip(&other.carried).for_each(|(sum, more)| sum.add(more));
+        self.across.add(&other.across);
         for (sum, more) in self.answers.iter_mut().zip(other.answers) {
             *sum += more;
         }
@@ -309,6 +314,23 @@ impl Met {
             self.listed[1].report(),
             self.listed[0].report()
         )
+    }
+
+    /// What could be met of benches carried over and was not.
+    pub fn missing_carried(&self) -> Vec<String> {
+        let [others, reached] = &self.carried;
+        let named = |of: &'static str| move |kind: &'static str| format!("{of}: {kind}");
+        let mut missing: Vec<String> = others.missing().into_iter().map(named("other states")).collect();
+        missing.extend(reached.missing_of_schedules().into_iter().map(named("schedules")));
+        missing.extend(self.across.missing().into_iter().map(named("lists")));
+        missing
+    }
+
+    /// Of benches carried over.
+    pub fn report_carried(&self) -> String {
+        let [others, reached] = &self.carried;
+        let lists = self.across.report();
+        format!("of schedules {}; of other states {}; lists {lists}", reached.report(), others.report())
     }
 
     /// Of diet portions.

@@ -48,6 +48,7 @@ mod library {
             budget: u32,
             progress: &mut Progress,
         ) -> u32;
+        pub fn gerzulan_bench_carry(bench: &mut Bench) -> u32;
         pub fn gerzulan_bench_global_data(bench: &Bench, process: u8, out: *mut u32, length: usize) -> u64;
         pub fn gerzulan_bench_in_transit(bench: &Bench, out: *mut u8, length: usize) -> u64;
         pub fn gerzulan_total(
@@ -103,7 +104,7 @@ pub fn run(bench: &mut Bench, schedule: &[u8], budget: u32) -> (Cause, Progress)
     let ended = unsafe {
         library::gerzulan_bench_run(bench, schedule.as_ptr(), schedule.len(), budget, &mut progress)
     };
-    // A refusal is 16 and its number, so that 15 is 31.
+    // A refusal is 16 and its number, so that 15 is 31. No run refuses with 16.
     let cause = match ended {
         0 => Cause::Done,
         1 => Cause::Spent,
@@ -111,6 +112,12 @@ pub fn run(bench: &mut Bench, schedule: &[u8], budget: u32) -> (Cause, Progress)
         _ => panic!("a run that ended by {ended}"),
     };
     (cause, progress)
+}
+
+/// Carries a bench from before diet portions over, in place; refused, it stays.
+pub fn carry(bench: &mut Bench) -> u32 {
+    // SAFETY: the bench has the library's layout, as it had before.
+    unsafe { library::gerzulan_bench_carry(bench) }
 }
 
 /// What is given, or the number of the refusal in the high half.

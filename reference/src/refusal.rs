@@ -34,6 +34,8 @@ pub enum Refusal {
     NoSite = 14,
     /// More diet portions than portions, in a start or in an entry given to an aggregate.
     Diet = 15,
+    /// A count above 65,535 in a bench of before diet portions.
+    LargeCount = 16,
 }
 
 impl Refusal {

@@ -28,6 +28,16 @@ pub struct Ended<'a> {
 impl Bench {
     /// Steps until the slice is empty, the budget is spent or a record is refused.
     pub fn run<'a>(&mut self, schedule: &'a [u8], budget: u32) -> Ended<'a> {
+        self.run_by(schedule, budget, Bench::step_sound)
+    }
+
+    /// The same, where `step` takes each record.
+    pub(crate) fn run_by<'a>(
+        &mut self,
+        schedule: &'a [u8],
+        budget: u32,
+        step: impl Fn(&mut Bench, &[u8]) -> Result<Closing, Refusal>,
+    ) -> Ended<'a> {
         let (mut accepted, mut closing, mut rest) = (0, Closing::None, schedule);
         if !self.is_sound() {
             let cause = Cause::Refused(Refusal::Damaged.number());
@@ -41,7 +51,7 @@ impl Bench {
                 break Cause::Spent;
             }
             let (record, after) = rest.split_at(rest.len().min(Bench::RECORD));
-            match self.step_sound(record) {
+            match step(self, record) {
                 Ok(stepped) => closing = stepped.or(closing),
                 Err(refusal) => break Cause::Refused(refusal.number()),
             }

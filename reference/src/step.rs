@@ -33,7 +33,7 @@ impl Bench {
         Ok(Closing::None)
     }
 
-    fn start(&mut self, a: usize, value: Value) -> Answer {
+    pub(crate) fn start(&mut self, a: usize, value: Value) -> Answer {
         let everyone = self.everyone();
         let p = &mut self.processes[a];
         if p.round != 0 {

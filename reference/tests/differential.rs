@@ -19,6 +19,7 @@ fn proved_library_and_reference_agree() {
     println!("seed {seed}: {}", met.report());
     println!("seed {seed}, of diet portions: {}", met.report_values());
     println!("seed {seed}, of nearly equal estimates: {}", met.closes.report());
+    println!("seed {seed}, of benches carried over: {}", met.report_carried());
     assert!(met.records >= RECORDS, "{} records", met.records);
     assert!(met.missing().is_empty(), "refusals not met: {:?}", met.missing());
     let missing = met.closings.missing();
@@ -29,6 +30,8 @@ fn proved_library_and_reference_agree() {
     assert!(missing.is_empty(), "values not met: {missing:?}");
     let missing = met.closes.missing();
     assert!(missing.is_empty(), "closes not met: {missing:?}");
+    let missing = met.missing_carried();
+    assert!(missing.is_empty(), "carryings not met: {missing:?}");
     let [others, reached] = met.listed;
     let missing = (reached.missing(16), others.missing(OTHER));
     assert!(missing == (vec![], vec![]), "lists not met: {missing:?}, the second of other states");

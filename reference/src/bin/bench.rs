@@ -4,7 +4,7 @@
 use reference::calendar::{self, Entry, Kind, Week};
 use reference::closes::{due, ends, Due};
 use reference::gen::{schedule, schedule_without_crashes, Rng};
-use reference::{gen, proved, Bench, Cause, Closing, Counters};
+use reference::{gen, proved, Bench, Cause, Closing, Counters, OldBench};
 use std::hint::black_box;
 use std::io::Write;
 use std::path::Path;
@@ -38,6 +38,7 @@ fn main() {
         }
     }
     soundness(repeats);
+    carrying(repeats);
     for near in [false, true] {
         calendars(near, repeats);
     }
@@ -156,6 +157,20 @@ fn soundness(repeats: usize) {
         || (0..TIMES).for_each(|_| assert_eq!(proved::run(black_box(&mut bench), &[], 0).0, Cause::Done));
     let plain = || (0..TIMES).for_each(|_| assert!(black_box(&other).is_sound()));
     report("soundness, and the state copied", TIMES, repeats, ours, plain);
+}
+
+/// Carrying a bench over of which half of the entries are present, none above 65,535.
+fn carrying(repeats: usize) {
+    const TIMES: usize = 2000;
+    let mut bench = gen::random_state(&mut Rng::new(1), 16, 15, true);
+    let estimates = bench.processes.iter_mut().map(|p| &mut p.estimate);
+    for word in estimates.chain(&mut bench.sent).flat_map(|data| &mut data.values) {
+        *word &= u16::MAX as u32;
+    }
+    let mut old = OldBench(bench);
+    let ours = || (0..TIMES).for_each(|_| assert_eq!(proved::carry(black_box(&mut bench)), 0));
+    let plain = || (0..TIMES).for_each(|_| assert!(black_box(&mut old).carry().is_ok()));
+    report("carrying over", TIMES, repeats, ours, plain);
 }
 
 const WEEK: u16 = 1000;

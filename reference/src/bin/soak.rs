@@ -20,7 +20,8 @@ fn main() {
         met.add(&decided_bytes(seed));
         of_calendars.add(&calendars(seed, CALENDARS));
         seed += 1;
-        let reports = [met.report(), met.report_values(), of_calendars.report()].join("; ");
+        let reports =
+            [met.report(), met.report_values(), met.report_carried(), of_calendars.report()].join("; ");
         println!("seeds {first} to {}: {reports}", seed - 1);
     }
 }

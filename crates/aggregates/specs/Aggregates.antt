@@ -10,10 +10,9 @@ use Rattle.sets.specs.Set.{within}
 use Rattle.sets.specs.Truth.{same, oneTo, choose, check}
 use Rattle.global_data.specs.declared.Entry.{Entry}
 use Rattle.global_data.specs.declared.Entry.the-variants.{Absent, Value}
-use Rattle.aggregates.specs.declared.Candidate.{Candidate}
 use Rattle.aggregates.specs.declared.Leader.{Leader}
 use Rattle.aggregates.specs.declared.Leader.the-variants.{Nobody, Leads}
-use Rattle.aggregates.specs.Answers.{Answer, refused, gives}
+use Rattle.aggregates.specs.Answers.{Answer, refused, gives, Lead}
 use Rattle.aggregates.specs.Entries.{entryAt, standingAt, countsFor, served, dietsFit}
 use Rattle.aggregates.specs.Leader.{leaderTo}
 
@@ -44,10 +43,10 @@ total n standing entry = sumTo n (λ i. countsFor (standing i) (entry i))
 abbrev pub go : ℕ → (ℕ → Entry) → Bool
 go n entry = every n (λ i. served (entry i))
 
--- the lead of entries that are all absent is refused
-abbrev pub led : Leader → Answer Candidate
+-- who leads, and its portions; the lead of entries that are all absent is refused
+abbrev pub led : Leader → Answer Lead
 led Nobody = refused 12
-led (Leads c) = gives c
+led (Leads c) = gives (record { process = c .process; portions = c .portions })
 
 -- portions less standing value (document 01: standing count); the change of an absent entry is refused
 abbrev pub changed : ℕ → Entry → Answer ℤ
@@ -65,7 +64,7 @@ unfoldable pub goOf : ℕ → List ℕ → ℕ → Answer Bool
 goOf n entries marks =
     unless (refusalOf n marks true true entries) (gives (go n (entryAt entries marks)))
 
-unfoldable pub leadOf : ℕ → List ℕ → ℕ → Answer Candidate
+unfoldable pub leadOf : ℕ → List ℕ → ℕ → Answer Lead
 leadOf n entries marks =
     unless (refusalOf n marks true true entries) (led (leaderTo n (entryAt entries marks)))
 

@@ -3,7 +3,6 @@
 use mathlib.Core.Bool.{Bool}
 use Prim.Native.Nat.{ℕ}
 use lib.IntN.{ℤ}
-use Rattle.aggregates.specs.declared.Candidate.{Candidate}
 use Rattle.aggregates.specs.declared.TotalAnswer.{TotalAnswer}
 use Rattle.aggregates.specs.declared.TotalAnswer.the-variants as total
 use Rattle.aggregates.specs.declared.GoAnswer.{GoAnswer}
@@ -17,6 +16,11 @@ pub data Answer (A : Type 0) : Type 0 where
   refused : ℕ → Answer A
   gives : A → Answer A
 
+-- what a lead gives: the process, from 1, and its portions
+pub record Lead : Type 0 where
+  pub process : ℕ
+  pub portions : ℕ
+
 abbrev pub totalMeans : TotalAnswer → Answer ℕ
 totalMeans (total.Sum v) = gives v
 totalMeans (total.Refused r) = refused (r .number)
@@ -25,8 +29,7 @@ abbrev pub goMeans : GoAnswer → Answer Bool
 goMeans (go.Go b) = gives b
 goMeans (go.Refused r) = refused (r .number)
 
--- the process, from 1, and its portions
-abbrev pub leadMeans : LeadAnswer → Answer Candidate
+abbrev pub leadMeans : LeadAnswer → Answer Lead
 leadMeans (lead.Lead p v) = gives (record { process = p; portions = v })
 leadMeans (lead.Refused r) = refused (r .number)
 

@@ -6,14 +6,13 @@ use mathlib.Core.List.{List, [], _∷_, map}
 use Prim.Native.Nat.{ℕ, _+_, _*_}
 use lib.IntN.{ℤ, pos, negsuc}
 use lib.ListN.{replicate}
-use Rattle.sets.specs.Lists.{every, sumTo}
+use Rattle.sets.specs.Lists.{joined, every, everyIn, sumTo}
 use Rattle.sets.specs.Set.{has, within}
 use Rattle.sets.specs.Truth.{_&&_, _||_, same, below, oneTo, choose, check}
 use Rattle.global_data.specs.GlobalData.{portionsOf, dietOf, dietFits}
-use Rattle.aggregates.specs.declared.Candidate.{Candidate}
-use Rattle.aggregates.specs.Answers.{Answer, refused, gives}
+use Rattle.aggregates.specs.Answers.{Answer, refused, gives, Lead}
 use Rattle.aggregates.specs.Entries.{entryAt}
-use Rattle.aggregates.specs.Leader.{better, leaderTo}
+use Rattle.aggregates.specs.Leader.{better, candidates, isGreatest, firstIn, leaderTo}
 use Rattle.aggregates.specs.Aggregates.{refusalOf, unless, totalOf, goOf, leadOf, changeOf}
 use Rattle.aggregates.specs.TotalLaws.{greatest}
 
@@ -90,7 +89,7 @@ cases = refl
 -- ---- go, lead, and the change of a process from a standing value
 pub record Answers : Type 0 where
   pub goes : Answer Bool
-  pub leads : Answer Candidate
+  pub leads : Answer Lead
   pub changes : Answer ℤ
 
 pub record Reading : Type 0 where
@@ -129,9 +128,22 @@ readings =
     -- one diet portion more than portions
     ∷ alone 0 1 0 (allRefused 15)
     ∷ alone 65534 65535 0 (allRefused 15)
-    -- portions are read and not the word: 40/0 leads 3/3; ties to the lowest number, whatever the diet portions are
+    -- portions come first: 40/0 leads before 3/3, from either side
     ∷ reading 2 (word 40 0 ∷ word 3 3 ∷ []) 3 2 5 (given true 1 40 (negsuc 1))
-    ∷ reading 2 (word 3 0 ∷ word 3 3 ∷ []) 3 2 3 (given true 1 3 (pos 0))
+    ∷ reading 2 (word 3 3 ∷ word 40 0 ∷ []) 3 1 5 (given true 2 40 (negsuc 1))
+    -- of equal portions more diet portions lead, from either side and up to the largest
+    ∷ reading 2 (word 3 0 ∷ word 3 3 ∷ []) 3 2 3 (given true 2 3 (pos 0))
+    ∷ reading 2 (word 3 3 ∷ word 3 0 ∷ []) 3 2 3 (given true 1 3 (pos 0))
+    ∷ reading 2 (word 65535 65535 ∷ word 65535 65534 ∷ []) 3 1 65535 (given true 1 65535 (pos 0))
+    -- of those equal too the highest number leads: of three, of the first two, of all sixteen, of no portions
+    ∷ reading 3 (replicate 3 (word 7 2)) 7 1 7 (given true 3 7 (pos 0))
+    ∷ reading 3 (word 7 2 ∷ word 7 2 ∷ word 7 1 ∷ []) 7 1 7 (given true 2 7 (pos 0))
+    ∷ reading 16 (replicate 16 (word 9 9)) 65535 1 9 (given true 16 9 (pos 0))
+    ∷ reading 3 (replicate 3 0) 7 1 0 (given false 3 0 (pos 0))
+    -- what is absent does not lead: not with more portions, more diet portions or a higher number
+    ∷ reading 3 (word 7 2 ∷ word 9 0 ∷ word 5 5 ∷ []) 5 1 7 (given false 1 7 (pos 0))
+    ∷ reading 3 (word 7 2 ∷ word 7 3 ∷ word 7 1 ∷ []) 5 1 7 (given false 1 7 (pos 0))
+    ∷ reading 3 (replicate 3 (word 7 2)) 3 1 7 (given false 2 7 (pos 0))
     -- 15 of another entry than the one asked for, and before 12; nothing under an absent one
     ∷ reading 3 fault 7 1 0 (allRefused 15)
     ∷ reading 3 fault 6 1 0 (allRefused 15)
@@ -149,6 +161,6 @@ pub read : map (λ c. record {
   leads = leadOf (c .n) (c .entries) (c .marks);
   changes = changeOf (c .n) (c .entries) (c .marks) (c .process) (c .standing);
 }) readings ≡ map (λ c. c .answers) readings
-unfolding portionsOf dietOf dietFits every has within _&&_ _||_ same below oneTo choose check entryAt better leaderTo
-    refusalOf unless goOf leadOf changeOf
+unfolding portionsOf dietOf dietFits joined every everyIn has within _&&_ _||_ same below oneTo choose check entryAt
+    better candidates isGreatest firstIn leaderTo refusalOf unless goOf leadOf changeOf
 read = refl

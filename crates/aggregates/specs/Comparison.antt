@@ -1,64 +1,134 @@
--- Laws of the comparison of candidates: what it says, and the two that the search for a leader rests on.
-use mathlib.Core.Path.{_≡_, sym, _∙_}
+-- The comparison of candidates is a strict total order: each number decides, or leaves it to what follows; said once
+-- of any number (`lex-*`), and used for portions, diet portions and the number. The last laws are its tests in the
+-- code's order.
+use mathlib.Core.Path.{_≡_, refl, sym, _∙_}
 use mathlib.Core.Logic.{_⊎_, inl, inr, ⊎-elim}
-use mathlib.Core.Bool.{true, false}
-use Prim.Native.Nat.{_≤_, _<_}
+use mathlib.Core.Bool.{Bool, true, false}
+use mathlib.Mathlib.Order.Defs.Unbundled.{IsStrictTotalOrder}
+use Prim.Native.Nat.{ℕ, _≤_, _<_}
 use native.Mathlib.Omega.{arith}
 use lib.Dec.{ltb}
-use Rattle.sets.specs.Truth.{below}
-use Rattle.sets.specs.TruthLaws.{or-cases, or-none-l, or-none-r, or-off-l, or-off-r, and-l}
-use Rattle.sets.specs.TruthLaws.{and-r, and-on-l, and-off-l, and-cases, same-on, same-mk}
-use Rattle.sets.specs.TruthLaws.{same-off, same-not, below-on, below-off, below-not, off-by}
+use Rattle.sets.specs.Truth.{_&&_, _||_, same, below}
+use Rattle.sets.specs.TruthLaws.{or-cases, or-mk-l, or-none-l, or-off-l, and-l, and-r, and-on-l, and-off-l, or-off-r}
+use Rattle.sets.specs.TruthLaws.{same-on, same-mk, same-off, below-on, below-mk, below-not, below-off, clash, off-by}
 use Rattle.aggregates.specs.declared.Candidate.{Candidate}
 use Rattle.aggregates.specs.Leader.{better}
 
+-- ---- a number, and what follows where it is the same
+
+abbrev lex : ℕ → ℕ → Bool → Bool
+lex x y next = below y x || (same y x && next)
+
+lex-more : (x y : ℕ) (r : Bool) → y < x → lex x y r ≡ true
+lex-more x y r h = or-mk-l _ _ (below-mk y x h)
+
+lex-same : (x y : ℕ) (r : Bool) → y ≡ x → lex x y r ≡ r
+lex-same x y r e = or-off-l _ _ (below-off y x (omega arith)) ∙ and-on-l _ _ (same-mk y x e)
+
+lex-on : (x y : ℕ) (r : Bool) → lex x y r ≡ true → (y < x) ⊎ ((y ≡ x) × (r ≡ true))
+lex-on x y r e =
+    ⊎-elim (λ l. inl (below-on y x l)) (λ t. inr (same-on y x (and-l _ _ t), and-r _ _ t)) (or-cases _ _ e)
+
+lex-trans : (x y z : ℕ) (r s t : Bool) → (r ≡ true → s ≡ true → t ≡ true) → lex x y r ≡ true → lex y z s ≡ true
+    → lex x z t ≡ true
+lex-trans x y z r s t f a b = go (lex-on x y r a) (lex-on y z s b)
+  where
+    go : (y < x) ⊎ ((y ≡ x) × (r ≡ true)) → (z < y) ⊎ ((z ≡ y) × (s ≡ true)) → lex x z t ≡ true
+    go (inl h) (inl k) = lex-more x z t (omega arith)
+    go (inl h) (inr k) = lex-more x z t (omega (arith, k .0))
+    go (inr h) (inl k) = lex-more x z t (omega (arith, h .0))
+    go (inr h) (inr k) = lex-same x z t (k .0 ∙ h .0) ∙ f (h .1) (k .1)
+
+-- where neither is first, the numbers are the same, and what follows puts neither first
+lex-neither : (x y : ℕ) (r s : Bool) → lex x y r ≡ false → lex y x s ≡ false
+    → (x ≡ y) × (r ≡ false) × (s ≡ false)
+lex-neither x y r s a b =
+    let e : x ≡ y = omega (arith, below-not y x (or-none-l _ _ a), below-not x y (or-none-l _ _ b)) in
+    (e, sym (lex-same x y r (sym e)) ∙ a, sym (lex-same y x s e) ∙ b)
+
+-- ---- the order
+
 -- a leads before b
-abbrev pub Ahead : Candidate → Candidate → Type 0
-Ahead a b = (b .portions < a .portions) ⊎ ((b .portions ≡ a .portions) × (a .process < b .process))
+abbrev pub Before : Candidate → Candidate → Type 0
+Before a b = better a b ≡ true
 
--- a does not
-pub record Behind (a b : Candidate) : Type 0 where
-  pub larger : a .portions ≤ b .portions
-  pub lower : a .portions ≡ b .portions → b .process ≤ a .process
-
-pub better-on : (a b : Candidate) → better a b ≡ true → Ahead a b
+irreflexive : (a : Candidate) → better a a ≡ false
 unfolding better
-better-on a b e =
-    ⊎-elim (λ l. inl (below-on _ _ l)) (λ t. inr (same-on _ _ (and-l _ _ t), below-on _ _ (and-r _ _ t)))
-    (or-cases _ _ e)
+irreflexive a = lex-same _ _ _ refl ∙ lex-same _ _ _ refl ∙ below-off _ _ (omega arith)
+
+transitive : (a b c : Candidate) → better a b ≡ true → better b c ≡ true → better a c ≡ true
+unfolding better
+transitive a b c =
+    lex-trans _ _ _ _ _ _ (lex-trans _ _ _ _ _ _
+    (λ h k. below-mk _ _ (omega (arith, below-on _ _ h, below-on _ _ k))))
+
+-- any two different ones compare
+compares : (a b : Candidate) → better a b ≡ false → better b a ≡ false → a ≡ b
+unfolding better
+compares a b h k =
+    let p = lex-neither _ _ _ _ h k in
+    let d = lex-neither _ _ _ _ (p .1) (p .2) in
+    let n : a .process ≡ b .process = omega (arith, below-not _ _ (d .1), below-not _ _ (d .2)) in
+    λ i. record { process = n i; portions = p .0 i; diet = d .0 i }
+
+pub order : IsStrictTotalOrder Candidate Before
+order = record {
+  isTrichotomous = record { trichotomous = λ a b h k. compares a b (off-by _ h) (off-by _ k) };
+  isStrictOrder = record {
+    isIrrefl = record { irrefl = λ a h. clash _ h (irreflexive a) };
+    isTrans = record { trans = transitive };
+  };
+}
+
+-- what the search uses: none leads before itself
+pub better-self : (a : Candidate) → better a a ≡ false
+better-self a = off-by _ (order .isStrictOrder .isIrrefl .irrefl a)
+
+-- what does not lead before c does not before one that does
+pub better-over : (a b c : Candidate) → better b c ≡ true → better a c ≡ false → better a b ≡ false
+better-over a b c h k = off-by _ (λ e. clash _ (order .isStrictOrder .isTrans .trans a b c e h) k)
+
+-- two of which neither leads before the other are one
+pub better-one : (a b : Candidate) → better a b ≡ false → better b a ≡ false → a ≡ b
+better-one a b h k = order .isTrichotomous .trichotomous a b (λ e. clash _ e h) (λ e. clash _ e k)
+
+-- ---- in the request's words
+
+-- a does not lead before b: it has no more portions; of equal portions no more diet portions; of those equal too no
+-- higher number
+pub record Behind (a b : Candidate) : Type 0 where
+  pub most : a .portions ≤ b .portions
+  pub diets : a .portions ≡ b .portions → a .diet ≤ b .diet
+  pub highest : a .portions ≡ b .portions → a .diet ≡ b .diet → a .process ≤ b .process
 
 pub better-off : (a b : Candidate) → better a b ≡ false → Behind a b
 unfolding better
 better-off a b e = record {
-  larger = below-not _ _ (or-none-l _ _ e);
-  lower = λ q. ⊎-elim (λ s. absurd (same-not _ _ s (sym q))) (λ l. below-not _ _ l)
-      (and-cases _ _ (or-none-r (below (b .portions) (a .portions)) _ e));
+  most = below-not _ _ (or-none-l _ _ e);
+  diets = λ p. below-not _ _ (or-none-l _ _ (sym (lex-same _ _ _ (sym p)) ∙ e));
+  highest = λ p d. below-not _ _ (sym (lex-same _ _ _ (sym p) ∙ lex-same _ _ _ (sym d)) ∙ e);
 }
 
 pub behind-off : (a b : Candidate) → Behind a b → better a b ≡ false
-behind-off a b h =
-    off-by (better a b) (λ e. ⊎-elim (λ l. omega arith) (λ t. omega (arith, h .lower (sym (t .0)))) (better-on a b e))
+unfolding better
+behind-off a b t =
+    off-by _ (λ e. ⊎-elim (λ h. omega (arith, t .most))
+    (λ p. ⊎-elim (λ h. omega (arith, t .diets (sym (p .0))))
+    (λ d. omega (arith, below-on _ _ (d .1), t .highest (sym (p .0)) (sym (d .0)))) (lex-on _ _ _ (p .1)))
+    (lex-on _ _ _ e))
 
--- none leads before itself
-pub better-self : (a : Candidate) → better a a ≡ false
-better-self a = behind-off a a (record { larger = omega arith; lower = λ q. omega arith })
+-- ---- as the code tests it: by the first number that differs
 
--- what does not lead before b does not before one that does
-pub better-over : (a b c : Candidate) → better b c ≡ true → better a c ≡ false → better a b ≡ false
-better-over a b c e f =
-    let h : Behind a c = better-off a c f in
-    behind-off a b (⊎-elim (λ l. record { larger = omega arith; lower = λ q. absurd (omega arith) })
-    (λ t. record { larger = omega arith; lower = λ q. omega (arith, h .lower (omega arith)) })
-    (better-on b c e))
-
--- as the code tests it: of equal portions by the numbers, of others by the portions
-pub better-same : (a b : Candidate) → a .portions ≡ b .portions → ltb (a .process) (b .process) ≡ better a b
+pub by-portions : (a b : Candidate) → (a .portions ≡ b .portions → ⊥) → ltb (b .portions) (a .portions) ≡ better a b
 unfolding better below
-better-same a b e =
-    sym (or-off-l _ _ (below-off (b .portions) (a .portions) (omega arith)) ∙ and-on-l _ _ (same-mk _ _ (sym e)))
+by-portions a b h = sym (or-off-r _ _ (and-off-l _ _ (same-off _ _ (λ e. h (sym e)))))
 
-pub better-other : (a b : Candidate) → (a .portions ≡ b .portions → ⊥) → ltb (b .portions) (a .portions) ≡ better a b
+pub by-diet : (a b : Candidate) → a .portions ≡ b .portions → (a .diet ≡ b .diet → ⊥)
+    → ltb (b .diet) (a .diet) ≡ better a b
 unfolding better below
-better-other a b h =
-    sym (or-off-r (below (b .portions) (a .portions)) _
-    (and-off-l _ (below (a .process) (b .process)) (same-off (b .portions) (a .portions) (λ e. h (sym e)))))
+by-diet a b p h = sym (lex-same _ _ _ (sym p) ∙ or-off-r _ _ (and-off-l _ _ (same-off _ _ (λ e. h (sym e)))))
+
+pub by-number : (a b : Candidate) → a .portions ≡ b .portions → a .diet ≡ b .diet
+    → ltb (b .process) (a .process) ≡ better a b
+unfolding better below
+by-number a b p d = sym (lex-same _ _ _ (sym p) ∙ lex-same _ _ _ (sym d))

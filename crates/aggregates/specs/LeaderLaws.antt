@@ -1,162 +1,215 @@
--- The leader is the one process that document 01 describes: the search keeps the best candidate so far,
--- by the laws of the comparison alone.
-use mathlib.Core.Path.{_≡_, refl, _∙_, ap}
+-- The leader is the one process that request C-18 describes, and the search finds it: of a list there is at most one
+-- greatest, since any two compare; and what comes forward last leads, or the leader so far does. By the laws of the
+-- order alone.
+use mathlib.Core.Path.{_≡_, refl, sym, _∙_, ap, subst}
 use mathlib.Core.Logic.{_⊎_, inl, inr, ⊎-elim}
-use mathlib.Core.Bool.{false}
+use mathlib.Core.Bool.{Bool, true, false, not}
+use mathlib.Core.List.{List, [], _∷_, _++_, append-nil}
+use mathlib.Core.List.{List·Memᴰ as In, List·Memᴰ·head as here, List·Memᴰ·tail as later}
+use mathlib.Core.List.{List·Memᴰ·not-nil as not-in, List·Memᴰ·cases-cons as in-cases}
+use mathlib.Core.List.{List·Memᴰ·eq-of-singleton as in-one, List·Memᴰ·append-cases as in-either}
+use mathlib.Core.List.{Memᴰ·append-left as in-left, Memᴰ·append-right as in-right, Memᴰ·cast as in-cast}
 use Prim.Native.Nat.{ℕ, zero, suc, _-_, _≤_, _<_}
-use native.Mathlib.Numerals.{unary-clauses}
 use native.Mathlib.Omega.{arith}
+use Rattle.sets.specs.Lists.{joined, everyIn}
+use Rattle.sets.specs.EveryLaws.{every-in-on, every-in-mk}
 use Rattle.sets.specs.Truth.{choose}
-use Rattle.sets.specs.TruthLaws.{choose-on, choose-off, Is, is, on, off, eq-or, le-or}
+use Rattle.sets.specs.TruthLaws.{choose-on, choose-off, Is, is, on, off, clash, eq-or, not-on}
 use Rattle.global_data.specs.declared.Entry.{Entry}
 use Rattle.global_data.specs.declared.Entry.the-variants.{Absent, Value}
 use Rattle.aggregates.specs.declared.Candidate.{Candidate}
 use Rattle.aggregates.specs.declared.Leader.{Leader}
 use Rattle.aggregates.specs.declared.Leader.the-variants.{Nobody, Leads}
-use Rattle.aggregates.specs.Leader.{better, withEntry, leaderTo}
-use Rattle.aggregates.specs.Comparison.{Behind, better-off, better-self, better-over}
+use Rattle.aggregates.specs.Leader.{better, candidate, candidates, isGreatest, firstIn, leaderTo}
+use Rattle.aggregates.specs.Search.{contend, withEntry}
+use Rattle.aggregates.specs.Comparison.{Behind, better-off, behind-off, better-self, better-over, better-one}
 
--- ---- the search, by better-self and better-over alone
+-- ---- the greatest of a list
 
-abbrev candidate : ℕ → ℕ → Candidate
-candidate i v = record { process = suc i; portions = v }
+record Greatest (l : List Candidate) (c : Candidate) : Type 0 where
+  its : In c l
+  best : (a : Candidate) → In a l → better a c ≡ false
 
--- an entry is present, with v portions
-abbrev pub Shows : Entry → ℕ → Type 0
-Shows e v = (d : ℕ) × (e ≡ Value v d)
+-- a test that c alone passes
+first-at : (test : Candidate → Bool) (l : List Candidate) (c : Candidate) → In c l → test c ≡ true
+    → ((a : Candidate) → In a l → test a ≡ true → a ≡ c) → firstIn test l ≡ Leads c
+unfolding firstIn
+first-at test [] c i t only = absurd (not-in i)
+first-at test (a ∷ l) c i t only =
+    go (is (test a)) (in-cases i) (λ j. first-at test l c j t (λ b k. only b (later k)))
+  where
+    go : Is (test a) → (c ≡ a) ⊎ In c l → (In c l → firstIn test l ≡ Leads c)
+        → choose (test a) (Leads a) (firstIn test l) ≡ Leads c
+    go (on e) i f = choose-on _ _ _ e ∙ ap Leads (only a (here refl) e)
+    go (off e) (inl q) f = clash (test a) (ap test (sym q) ∙ t) e
+    go (off e) (inr j) f = choose-off _ _ _ e ∙ f j
 
--- none of the processes 1 to n leads before b
-abbrev Unbeaten : ℕ → (ℕ → Entry) → Candidate → Type 0
-Unbeaten n g b = (i v : ℕ) → i < n → Shows (g i) v → better (candidate i v) b ≡ false
+found-greatest : (l : List Candidate) (c : Candidate) → Greatest l c → firstIn (isGreatest l) l ≡ Leads c
+unfolding isGreatest
+found-greatest l c t =
+    first-at (λ b. everyIn (λ a. not (better a b)) l) l c (t .its)
+    (every-in-mk (λ a. not (better a c)) l (λ a i. ap not (t .best a i)))
+    (λ a i e. better-one a c (t .best a i) (not-on _ (every-in-on (λ b. not (better b a)) l e c (t .its))))
 
-record Top (n : ℕ) (g : ℕ → Entry) (b : Candidate) : Type 0 where
-  from : 1 ≤ b .process
-  to : b .process ≤ n
-  its : Shows (g (b .process - 1)) (b .portions)
-  best : Unbeaten n g b
+-- ---- the search
 
-abbrev Found : ℕ → (ℕ → Entry) → Leader → Type 0
-Found n g Nobody = (i : ℕ) → i < n → g i ≡ Absent
-Found n g (Leads b) = Top n g b
+-- l is who leads a list: nobody an empty one
+abbrev Heads : List Candidate → Leader → Type 0
+Heads l Nobody = l ≡ []
+Heads l (Leads b) = Greatest l b
 
--- a number below n + 1 is n, or below n
-last-or : (n i : ℕ) → i < suc n → (i ≡ n) ⊎ (i < n)
-last-or n i h = ⊎-elim (λ e. inl e) (λ d. inr (omega arith)) (eq-or i n)
+heads-found : (l : List Candidate) (m : Leader) → Heads l m → firstIn (isGreatest l) l ≡ m
+unfolding firstIn
+heads-found l Nobody e = ap (λ k. firstIn (isGreatest k) k) e
+heads-found l (Leads b) t = found-greatest l b t
 
-same-value : (e : Entry) (v w : ℕ) → Shows e v → Shows e w → v ≡ w
-same-value e v w p q = let s = p .1 in let t = q .1 in cc
-
-no-value {ℓ} : {A : Type ℓ} (e : Entry) (v : ℕ) → Shows e v → e ≡ Absent → A
-no-value e v p q = let s = p .1 in let z : _≡_ {A = ℕ} 0 1 = cc in absurd (omega arith)
-
-module _ (n : ℕ) (g : ℕ → Entry) where
-  stays : (b : Candidate) → Top n g b → ((v : ℕ) → Shows (g n) v → better (candidate n v) b ≡ false) → Top (suc n) g b
-  stays b t f = record {
-    from = t .from;
-    to = omega (arith, t .to);
-    its = t .its;
-    best = λ i v h e. ⊎-elim (λ l. rw l (f v (rw l at e))) (λ l. t .best i v l e) (last-or n i h);
+module _ (l : List Candidate) (c : Candidate) where
+  takes : ((a : Candidate) → In a l → better a c ≡ false) → Greatest (l ++ (c ∷ [])) c
+  takes f = record {
+    its = in-right l (here refl);
+    best = λ a i. ⊎-elim (λ j. f a j) (λ j. ap (λ b. better b c) (in-one j) ∙ better-self c) (in-either l i);
   }
 
-  takes : (w : ℕ) → Shows (g n) w → Unbeaten n g (candidate n w) → Top (suc n) g (candidate n w)
-  takes w q f = record {
-    from = omega arith;
-    to = omega arith;
-    its = simp unary-clauses q;
-    best = λ i v h e. ⊎-elim
-        (λ l. rw (l, same-value (g n) v w (rw l at e) q) (better-self (candidate n w)))
-        (λ l. f i v l e) (last-or n i h);
+  stays : (b : Candidate) → Greatest l b → better c b ≡ false → Greatest (l ++ (c ∷ [])) b
+  stays b t e = record {
+    its = in-left (c ∷ []) (t .its);
+    best = λ a i. ⊎-elim (λ j. t .best a j) (λ j. ap (λ x. better x b) (in-one j) ∙ e) (in-either l i);
   }
 
-  met : (b : Candidate) (w : ℕ) → Shows (g n) w → Top n g b → Is (better (candidate n w) b)
-      → Found (suc n) g (choose (better (candidate n w) b) (Leads (candidate n w)) (Leads b))
-  met b w q t (on e) =
-      rw (choose-on _ _ _ e) (takes w q (λ i v h f. better-over (candidate i v) (candidate n w) b e (t .best i v h f)))
-  met b w q t (off e) = rw (choose-off _ _ _ e) (stays b t (λ v f. rw (same-value (g n) v w f q) e))
+  heads-contend : (m : Leader) → Heads l m → Heads (l ++ (c ∷ [])) (contend m c)
+  heads-contend Nobody e = takes (λ a i. absurd (not-in (subst (In a) e i)))
+  heads-contend (Leads b) t = go (is (better c b))
+    where
+      go : Is (better c b) → Heads (l ++ (c ∷ [])) (choose (better c b) (Leads c) (Leads b))
+      go (on e) = rw (choose-on _ (Leads c) (Leads b) e) (takes (λ a i. better-over a c b e (t .best a i)))
+      go (off e) = rw (choose-off _ (Leads c) (Leads b) e) (stays b t e)
 
-  step : (l : Leader) (e : Entry) → g n ≡ e → Found n g l → Found (suc n) g (withEntry l (suc n) e)
-  step Nobody Absent q t = λ i h. ⊎-elim (λ l. rw l q) (λ l. t i l) (last-or n i h)
-  step (Leads b) Absent q t = stays b t (λ v e. no-value (g n) v e q)
-  step Nobody (Value w d) q t = takes w (d, q) (λ i v h e. no-value (g i) v e (t i h))
-  step (Leads b) (Value w d) q t = met b w (d, q) t (is (better (candidate n w) b))
+heads-entry : (l : List Candidate) (m : Leader) (p : ℕ) (e : Entry) → Heads l m
+    → Heads (l ++ candidate p e) (withEntry m p e)
+heads-entry l m p Absent t = rw (append-nil l) t
+heads-entry l m p (Value v d) t = heads-contend l (record { process = p; portions = v; diet = d }) m t
 
-found : (n : ℕ) (g : ℕ → Entry) → Found n g (leaderTo n g)
-unfolding leaderTo
-found zero g = λ i h. absurd (omega arith)
-found (suc n) g = step n g (leaderTo n g) (g n) refl (found n g)
+module _ (g : ℕ → Entry) where
+  heads-next : (n : ℕ) → Heads (candidates n g) (leaderTo n g)
+      → Heads (candidates (suc n) g) (withEntry (leaderTo n g) (suc n) (g n))
+  unfolding candidates joined
+  heads-next n t = heads-entry (joined n (λ i. candidate (suc i) (g i))) (leaderTo n g) (suc n) (g n) t
 
--- ---- in document 01's words
+  next : (n : ℕ) → Heads (candidates n g) (leaderTo n g) → leaderTo (suc n) g ≡ withEntry (leaderTo n g) (suc n) (g n)
+  unfolding leaderTo
+  next n t = heads-found (candidates (suc n) g) _ (heads-next n t)
 
--- b is the process, from 1 to n, whose entry is present, with at least the portions of every present entry,
--- and more than those of lower number
+  heads : (n : ℕ) → Heads (candidates n g) (leaderTo n g)
+  unfolding candidates joined leaderTo firstIn
+  heads zero = refl
+  heads (suc n) = subst (Heads (candidates (suc n) g)) (sym (next n (heads n))) (heads-next n (heads n))
+
+  -- what the loop keeps
+  pub leader-next : (n : ℕ) → leaderTo (suc n) g ≡ withEntry (leaderTo n g) (suc n) (g n)
+  leader-next n = next n (heads n)
+
+  pub leader-start : leaderTo 0 g ≡ Nobody
+  unfolding candidates joined leaderTo firstIn
+  leader-start = refl
+
+-- ---- in the request's words
+
+-- b is the process, from 1 to n, whose entry is present, and that no present entry leads before
 pub record IsLead (n : ℕ) (g : ℕ → Entry) (b : Candidate) : Type 0 where
   pub from : 1 ≤ b .process
   pub to : b .process ≤ n
-  pub present : Shows (g (b .process - 1)) (b .portions)
-  pub largest : (i v : ℕ) → i < n → Shows (g i) v → v ≤ b .portions
-  pub lowest : (i v : ℕ) → suc i < b .process → Shows (g i) v → v < b .portions
+  pub present : g (b .process - 1) ≡ Value (b .portions) (b .diet)
+  pub others : (i v d : ℕ) → i < n → g i ≡ Value v d → Behind (record { process = suc i; portions = v; diet = d }) b
 
--- no leader: exactly where all are absent (none-lead, below)
+-- process i + 1 with v portions and d diet portions
+abbrev holds : ℕ → ℕ → ℕ → Candidate
+holds i v d = record { process = suc i; portions = v; diet = d }
+
+module _ (g : ℕ → Entry) where
+  -- who comes forward: one of the processes 1 to n, with what its entry holds
+  abbrev Comes : ℕ → Candidate → Type 0
+  Comes n c = (i : ℕ) × (i < n) × (c .process ≡ suc i) × (g i ≡ Value (c .portions) (c .diet))
+
+  last : (n : ℕ) (c : Candidate) (e : Entry) → g n ≡ e → In c (candidate (suc n) e) → Comes (suc n) c
+  last n c Absent q i = absurd (not-in i)
+  last n c (Value v d) q i =
+      let r = in-one i in
+      (n, omega arith, ap (λ x. x .process) r, q ∙ ap (λ x. Value (x .portions) (x .diet)) (sym r))
+
+  comes : (n : ℕ) (c : Candidate) → In c (candidates n g) → Comes n c
+  unfolding candidates joined
+  comes zero c i = absurd (not-in i)
+  comes (suc n) c i =
+      ⊎-elim (λ j. let w = comes n c j in (w .0, omega (arith, w .1), w .2, w .3)) (λ j. last n c (g n) refl j)
+      (in-either (joined n (λ i. candidate (suc i) (g i))) i)
+
+  alone : (i v d : ℕ) → g i ≡ Value v d → In (holds i v d) (candidate (suc i) (g i))
+  alone i v d q = subst (λ e. In (holds i v d) (candidate (suc i) e)) (sym q) (here refl)
+
+  forward : (n i v d : ℕ) → i < n → g i ≡ Value v d → In (holds i v d) (candidates n g)
+  unfolding candidates joined
+  forward zero i v d h q = absurd (omega arith)
+  forward (suc n) i v d h q =
+      ⊎-elim
+      (λ e. in-right (joined n (λ i. candidate (suc i) (g i)))
+      (subst (λ k. In (holds i v d) (candidate (suc k) (g k))) e (alone i v d q)))
+      (λ l. in-left _ (forward n i v d (omega arith) q)) (eq-or i n)
+
+  is-lead : (n : ℕ) (b : Candidate) → Greatest (candidates n g) b → IsLead n g b
+  is-lead n b t =
+      let w = comes n b (t .its) in
+      let s : b .process - 1 ≡ w .0 = omega (arith, w .2) in
+      record {
+        from = omega (arith, w .2);
+        to = omega (arith, w .1, w .2);
+        present = ap g s ∙ w .3;
+        others = λ i v d h q. better-off _ b (t .best _ (forward n i v d h q));
+      }
+
+  of-lead : (n : ℕ) (b : Candidate) → IsLead n g b → Greatest (candidates n g) b
+  of-lead n b t =
+      let s : b .process ≡ suc (b .process - 1) = omega (arith, t .from) in
+      record {
+        its = in-cast (λ i. record { process = s i; portions = b .portions; diet = b .diet })
+            (forward n (b .process - 1) (b .portions) (b .diet) (omega (arith, t .from, t .to)) (t .present));
+        best = λ a i.
+            let w = comes n a i in
+            ap (λ p. better (record { process = p; portions = a .portions; diet = a .diet }) b) (w .2)
+            ∙ behind-off _ b (t .others (w .0) (a .portions) (a .diet) (w .1) (w .3));
+      }
+
+-- no leader: exactly where all are absent
 pub lead-none : (n : ℕ) (g : ℕ → Entry) → leaderTo n g ≡ Nobody → (i : ℕ) → i < n → g i ≡ Absent
-lead-none n g e = rw e at (found n g)
+lead-none n g e i h = go (g i) refl
+  where
+    empty : candidates n g ≡ []
+    empty = subst (Heads (candidates n g)) e (heads g n)
+
+    go : (x : Entry) → g i ≡ x → g i ≡ Absent
+    go Absent q = q
+    go (Value v d) q = absurd (not-in (subst (In _) empty (forward g n i v d h q)))
 
 pub lead-is : (n : ℕ) (g : ℕ → Entry) (b : Candidate) → leaderTo n g ≡ Leads b → IsLead n g b
-lead-is n g b e =
-    let t : Top n g b = rw e at (found n g) in
-    let h : (i v : ℕ) → i < n → Shows (g i) v → Behind (candidate i v) b =
-    λ i v l q. better-off (candidate i v) b (t .best i v l q) in
-    record {
-      from = t .from;
-      to = t .to;
-      present = t .its;
-      largest = λ i v l q. h i v l q .larger;
-      lowest = λ i v l q. apart i v b l (h i v (omega (arith, t .to)) q) (le-or (b .portions) v);
-    }
-  where
-    apart : (i v : ℕ) (b : Candidate) → suc i < b .process → Behind (candidate i v) b
-        → (b .portions ≤ v) ⊎ (v < b .portions) → v < b .portions
-    apart i v b l h (inl k) = absurd (omega (arith, h .lower (omega (arith, h .larger))))
-    apart i v b l h (inr k) = k
+lead-is n g b e = is-lead g n b (subst (Heads (candidates n g)) e (heads g n))
 
--- there is at most one such process
-same-candidate : (a b : Candidate) → a .process ≡ b .process → a .portions ≡ b .portions → a ≡ b
-same-candidate a b p v = λ i. record { process = p i; portions = v i }
-
-not-lower : (n : ℕ) (g : ℕ → Entry) (a b : Candidate) → IsLead n g a → IsLead n g b → a .process ≤ b .process
-not-lower n g a b p q = go (le-or (a .process) (b .process))
-  where
-    go : (a .process ≤ b .process) ⊎ (b .process < a .process) → a .process ≤ b .process
-    go (inl h) = h
-    go (inr h) = absurd (omega (
-      arith,
-      p .lowest (b .process - 1) (b .portions) (omega (arith, q .from)) (q .present),
-      q .largest (a .process - 1) (a .portions) (omega (arith, p .to, p .from)) (p .present),
-    ))
-
-pub lead-one : (n : ℕ) (g : ℕ → Entry) (a b : Candidate) → IsLead n g a → IsLead n g b → a ≡ b
-lead-one n g a b p q =
-    same-candidate a b (omega (arith, not-lower n g a b p q, not-lower n g b a q p))
-    (omega (
-      arith,
-      q .largest (a .process - 1) (a .portions) (omega (arith, p .to, p .from)) (p .present),
-      p .largest (b .process - 1) (b .portions) (omega (arith, q .to, q .from)) (q .present),
-    ))
-
--- so it is the leader
+-- such a process is the leader
 pub lead-the : (n : ℕ) (g : ℕ → Entry) (b : Candidate) → IsLead n g b → leaderTo n g ≡ Leads b
-lead-the n g b p = go (leaderTo n g) refl
-  where
-    go : (l : Leader) → leaderTo n g ≡ l → leaderTo n g ≡ Leads b
-    go Nobody e =
-        no-value (g (b .process - 1)) (b .portions) (p .present)
-        (lead-none n g e (b .process - 1) (omega (arith, p .to, p .from)))
-    go (Leads a) e = e ∙ ap Leads (lead-one n g a b (lead-is n g a e) p)
+unfolding leaderTo
+lead-the n g b t = found-greatest (candidates n g) b (of-lead g n b t)
+
+-- so there is at most one
+pub lead-one : (n : ℕ) (g : ℕ → Entry) (a b : Candidate) → IsLead n g a → IsLead n g b → a ≡ b
+lead-one n g a b p q = let e : Leads a ≡ Leads b = sym (lead-the n g a p) ∙ lead-the n g b q in cc
 
 pub none-lead : (n : ℕ) (g : ℕ → Entry) → ((i : ℕ) → i < n → g i ≡ Absent) → leaderTo n g ≡ Nobody
 none-lead n g h = go (leaderTo n g) refl
   where
+    absent : (e : Entry) (v d : ℕ) → e ≡ Value v d → e ≡ Absent → leaderTo n g ≡ Nobody
+    absent e v d p q = let z : _≡_ {A = ℕ} 0 1 = cc in absurd (omega arith)
+
     go : (l : Leader) → leaderTo n g ≡ l → leaderTo n g ≡ Nobody
     go Nobody e = e
-    go (Leads a) e =
-        let p : IsLead n g a = lead-is n g a e in
-        no-value (g (a .process - 1)) (a .portions) (p .present) (h (a .process - 1) (omega (arith, p .to, p .from)))
+    go (Leads b) e =
+        let t : IsLead n g b = lead-is n g b e in
+        absent (g (b .process - 1)) (b .portions) (b .diet) (t .present)
+        (h (b .process - 1) (omega (arith, t .to, t .from)))

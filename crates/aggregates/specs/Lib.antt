@@ -8,5 +8,6 @@ pub mod Entries
 pub mod Leader
 pub mod LeaderLaws
 pub mod Refusals
+pub mod Search
 pub mod TotalLaws
 pub mod Whole

@@ -1,7 +1,6 @@
 -- What an answer means fixes the whole of it: two answers that mean the same are one.
 use mathlib.Core.Path.{_≡_, ap}
 use Rattle.aggregates.specs.declared.Refusal.{Refusal}
-use Rattle.aggregates.specs.declared.Candidate.{Candidate}
 use Rattle.aggregates.specs.declared.TotalAnswer.{TotalAnswer}
 use Rattle.aggregates.specs.declared.TotalAnswer.the-variants as total
 use Rattle.aggregates.specs.declared.GoAnswer.{GoAnswer}
@@ -10,13 +9,13 @@ use Rattle.aggregates.specs.declared.LeadAnswer.{LeadAnswer}
 use Rattle.aggregates.specs.declared.LeadAnswer.the-variants as lead
 use Rattle.aggregates.specs.declared.ChangeAnswer.{ChangeAnswer}
 use Rattle.aggregates.specs.declared.ChangeAnswer.the-variants as change
-use Rattle.aggregates.specs.Answers.{Answer, refused, gives, totalMeans, goMeans, leadMeans, changeMeans}
+use Rattle.aggregates.specs.Answers.{Answer, refused, gives, Lead, totalMeans, goMeans, leadMeans, changeMeans}
 
 same-refusal : {A : Type 0} (r s : Refusal) → _≡_ {A = Answer A} (refused (r .number)) (refused (s .number)) → r ≡ s
 same-refusal r s e = let h : r .number ≡ s .number = cc in λ i. record { number = h i }
 
-given-candidate : (a b : Candidate) → gives a ≡ gives b → a ≡ b
-given-candidate a b e = cc
+given-lead : (a b : Lead) → gives a ≡ gives b → a ≡ b
+given-lead a b e = cc
 
 pub total-whole : (a b : TotalAnswer) → totalMeans a ≡ totalMeans b → a ≡ b
 total-whole (total.Sum v) (total.Sum w) e = cc
@@ -32,7 +31,7 @@ go-whole (go.Refused r) (go.Refused s) e = ap go.Refused (same-refusal r s e)
 
 pub lead-whole : (a b : LeadAnswer) → leadMeans a ≡ leadMeans b → a ≡ b
 lead-whole (lead.Lead p v) (lead.Lead q w) e =
-    ap (λ (c : Candidate). lead.Lead (c .process) (c .portions)) (given-candidate _ _ e)
+    ap (λ (c : Lead). lead.Lead (c .process) (c .portions)) (given-lead _ _ e)
 lead-whole (lead.Lead p v) (lead.Refused r) e = cc
 lead-whole (lead.Refused r) (lead.Lead p v) e = cc
 lead-whole (lead.Refused r) (lead.Refused s) e = ap lead.Refused (same-refusal r s e)

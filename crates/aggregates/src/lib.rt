@@ -1,5 +1,6 @@
 // Aggregates of global data (document 01: sums of a sheet): of n entries and their present marks, bit i for entry i.
-// No word under an absent entry is read. A word holds portions and diet portions, and the aggregates read portions.
+// No word under an absent entry is read. A word holds portions and diet portions; the aggregates read portions, and
+// the lead's ties diet portions too.
 use global_data::Entry;
 use global_data::diet_fits;
 use global_data::value_in;
@@ -13,7 +14,8 @@ ghost use Rattle.aggregates.specs.Aggregates.{refusalOf, total, go, led,
 ghost use Rattle.aggregates.specs.Aggregates.{totalOf, goOf, leadOf, changeOf};
 ghost use Rattle.aggregates.specs.Answers.{totalMeans, goMeans, leadMeans, changeMeans};
 ghost use Rattle.aggregates.specs.Entries.{entryAt, standingAt, countsFor, served, dietsFit};
-ghost use Rattle.aggregates.specs.Leader.{better, contend, withEntry, leaderTo};
+ghost use Rattle.aggregates.specs.Leader.{better, leaderTo};
+ghost use Rattle.aggregates.specs.Search.{contend, withEntry};
 
 // A refusal, by document 01's number.
 pub struct Refusal {
@@ -40,10 +42,11 @@ pub enum ChangeAnswer {
     Refused(Refusal),
 }
 
-// A process, by its number from 1, with its portions.
+// A process, by its number from 1, with what its entry holds.
 pub struct Candidate {
     pub process: u8,
     pub portions: u16,
+    pub diet: u16,
 }
 
 // The lead among the entries looked at.
@@ -154,11 +157,13 @@ fn all_served(entries: &[u32], marks: u16) -> bool
 fn is_better(a: Candidate, b: Candidate) -> bool
     ensures { λ r. ⌜ r ≡ better a b ⌝ }
 {
-    if a.portions == b.portions {
-        a.process < b.process
-    } else {
-        b.portions < a.portions
+    if a.portions != b.portions {
+        return b.portions < a.portions;
     }
+    if a.diet != b.diet {
+        return b.diet < a.diet;
+    }
+    b.process < a.process
 }
 
 fn with_candidate(leader: Leader, c: Candidate) -> Leader
@@ -179,9 +184,13 @@ fn with_entry(leader: Leader, process: u8, entry: Entry) -> Leader
 {
     match entry {
         Entry::Absent => leader,
-        Entry::Value { portions, diet: _ } => with_candidate(
+        Entry::Value { portions, diet } => with_candidate(
             leader,
-            Candidate { process, portions },
+            Candidate {
+                process,
+                portions,
+                diet,
+            },
         ),
     }
 }
@@ -252,7 +261,8 @@ pub fn go(n: u8, entries: &[u32], marks: u16) -> GoAnswer
     GoAnswer::Go(all_served(entries, marks))
 }
 
-// The process with the most portions, ties to the lowest number.
+// The process with the most portions; of equal portions the one with more diet portions, of those equal too the one
+// with the highest number.
 pub fn lead(n: u8, entries: &[u32], marks: u16) -> LeadAnswer
     ensures { λ r. ⌜ leadMeans r ≡ leadOf n (now (entries .entry)) marks ⌝ }
 {

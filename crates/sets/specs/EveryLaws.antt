@@ -1,14 +1,16 @@
 -- Laws of `every`: what holds of each number below n, and one that fails where not every one passes, by induction
--- on n. From these, laws of `some`.
+-- on n. From these, laws of `some`. Then of `everyIn`: what holds of each element of a list, by induction on it.
 use mathlib.Core.Path.{_≡_, refl, sym, _∙_, ap}
 use mathlib.Core.Logic.{⊎-elim}
 use mathlib.Core.Bool.{Bool, true, false, not}
+use mathlib.Core.List.{List, [], _∷_, List·Memᴰ as In, List·Memᴰ·head as here, List·Memᴰ·tail as later}
+use mathlib.Core.List.{List·Memᴰ·not-nil as not-in, List·Memᴰ·cases-cons as in-cases}
 use Prim.Native.Nat.{ℕ, zero, suc, _<_}
 use native.Mathlib.Omega.{arith}
 use Rattle.sets.specs.Truth.{_||_}
 use Rattle.sets.specs.TruthLaws.{and-l, and-r, and-mk, and-cases, clash, eq-or, not-on, not-off, off-by}
 use Rattle.sets.specs.TruthLaws.{both-ways, or-cases, or-mk-l, or-mk-r}
-use Rattle.sets.specs.Lists.{every, some}
+use Rattle.sets.specs.Lists.{every, some, everyIn}
 
 pub every-on : (n : ℕ) (p : ℕ → Bool) → every n p ≡ true → (k : ℕ) → k < n → p k ≡ true
 unfolding every
@@ -75,3 +77,18 @@ some-suc n p =
     (λ e. ⊎-elim (λ u. some-mk (suc n) p n (omega arith) u)
     (λ u. let w = some-on n p u in some-mk (suc n) p (w .0) (omega (arith, w .1)) (w .2))
     (or-cases (p n) (some n p) e))
+
+-- every element of a list passes: so each does, and where each does
+module _ {A : Type 0} (p : A → Bool) where
+  pub every-in-on : (l : List A) → everyIn p l ≡ true → (x : A) → In x l → p x ≡ true
+  unfolding everyIn
+  every-in-on [] e x i = absurd (not-in i)
+  every-in-on (y ∷ l) e x i =
+      ⊎-elim (λ u. rw u (and-l (p y) (everyIn p l) e))
+      (λ j. every-in-on l (and-r (p y) (everyIn p l) e) x j) (in-cases i)
+
+  pub every-in-mk : (l : List A) → ((x : A) → In x l → p x ≡ true) → everyIn p l ≡ true
+  unfolding everyIn
+  every-in-mk [] h = refl
+  every-in-mk (y ∷ l) h =
+      and-mk (p y) (everyIn p l) (h y (here refl)) (every-in-mk l (λ x i. h x (later i)))

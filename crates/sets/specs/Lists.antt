@@ -10,7 +10,7 @@ each zero f = []
 each (suc n) f = each n f ++ (f n ∷ [])
 
 -- the lists f 0, f 1, .. f (n - 1), one after the other
-unfoldable pub joined : ℕ → (ℕ → List ℕ) → List ℕ
+unfoldable pub joined : {A : Type 0} → ℕ → (ℕ → List A) → List A
 joined zero f = []
 joined (suc n) f = joined n f ++ f n
 

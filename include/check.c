@@ -358,7 +358,7 @@ static int diet_of_aggregates(void) {
     static const uint32_t absent[4] = {0, 0, 0, 12}, none[4] = {0, 0, 12, 12};
     CHECK(four_are(2, good, 2, 3, standing, 2, all_0) && sum == 81 && going == 1 && leader == 2 && most_of == 41);
     CHECK(difference == 41 - (int64_t)UINT32_MAX);
-    CHECK(four_are(2, ties, 2, 3, standing, 1, all_0) && sum == 14 && leader == 1 && most_of == 7);
+    CHECK(four_are(2, ties, 2, 3, standing, 1, all_0) && sum == 14 && leader == 2 && most_of == 7);
     CHECK(four_are(2, no_go, 2, 3, standing, 2, all_0) && sum == 1 && going == 0);
     CHECK(difference == -(int64_t)UINT32_MAX);
     CHECK(four_are(2, bad, 2, 3, standing, 2, all_15) && four_are(2, bad, 2, 1, standing, 2, all_15));
@@ -368,6 +368,33 @@ static int diet_of_aggregates(void) {
     CHECK(four_are(2, bad, 2, 2, standing, 1, absent) && sum == 0x10000 + 41 && going == 0 && leader == 2);
     CHECK(four_are(2, bad, 2, 0, standing, 1, none) && sum == 0x30000 && going == 0);
     CHECK(gerzulan_change(2, good, 2, 3, 2, 0, &difference) == 0 && difference == 41);
+    return 0;
+}
+
+/* Gives whether `process` leads the three entries with so many portions. */
+static int leads(uint32_t first, uint32_t second, uint32_t third, uint16_t marks, uint8_t process, uint32_t portions) {
+    uint32_t entries[3] = {first, second, third};
+    leader = 9, most_of = 9;
+    return gerzulan_lead(3, entries, 3, marks, &leader, &most_of) == 0 && leader == process && most_of == portions;
+}
+
+/* Most portions, then most diet portions, then the highest number, whatever the order; an absent entry does not lead. */
+static int ties_of_the_lead(void) {
+    const uint32_t plain = GERZULAN_VALUE(7, 0), some = GERZULAN_VALUE(7, 3), all = GERZULAN_VALUE(7, 7);
+    const uint32_t more = GERZULAN_VALUE(8, 0), fewer = GERZULAN_VALUE(6, 6), top = GERZULAN_VALUE(65535, 65535);
+    uint32_t sixteen[16];
+    size_t i;
+    CHECK(leads(all, more, fewer, 7, 2, 8) && leads(more, all, fewer, 7, 1, 8) && leads(fewer, all, more, 7, 3, 8));
+    CHECK(leads(plain, all, some, 7, 2, 7) && leads(all, some, plain, 7, 1, 7) && leads(plain, some, all, 7, 3, 7));
+    CHECK(leads(some, some, some, 7, 3, 7) && leads(some, some, plain, 7, 2, 7) && leads(all, some, all, 7, 3, 7));
+    CHECK(leads(0, 0, 0, 7, 3, 0) && leads(top, top, GERZULAN_VALUE(65535, 65534), 7, 2, 65535));
+    CHECK(leads(some, more, some, 5, 3, 7) && leads(some, all, plain, 5, 1, 7) && leads(some, some, some, 3, 2, 7));
+    CHECK(leads(plain, top, top, 1, 1, 7) && leads(top, 0, top, 2, 2, 0));
+    for (i = 0; i < 16; i++) {
+        sixteen[i] = some;
+    }
+    CHECK(gerzulan_lead(16, sixteen, 16, 0xffff, &leader, &most_of) == 0 && leader == 16 && most_of == 7);
+    CHECK(gerzulan_lead(16, sixteen, 16, 0x7ffe, &leader, &most_of) == 0 && leader == 15 && most_of == 7);
     return 0;
 }
 
@@ -416,7 +443,8 @@ static int calendar(void) {
 
 int main(void) {
     if (one_by_one() || by_runs() || agreed() || last_round() || list_in_order() || reads() || totals() ||
-        decided_byte() || diet_of_starts() || diet_decides() || carry_over() || diet_of_aggregates() || calendar()) {
+        decided_byte() || diet_of_starts() || diet_decides() || carry_over() || diet_of_aggregates() ||
+        ties_of_the_lead() || calendar()) {
         return 1;
     }
     puts("ok");

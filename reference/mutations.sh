@@ -3,10 +3,11 @@
 # Usage: ./mutations.sh [name...]            (from the package's directory)
 #        PROVED=1 ./mutations.sh [name...]   only the differential test with the proved library, which `make library` writes,
 #                                            or the one in PROVED_LIB_DIR
+#        TESTS="--lib --test lead" ./mutations.sh [name...]   only these of the reference's own tests
 set -eu
 only=" $* "
 place=target/mutations
-tests=
+tests=${TESTS:-}
 if [ -n "${PROVED:-}" ]; then
     tests="--features proved --test differential"
     PROVED_LIB_DIR=$(cd "${PROVED_LIB_DIR:-../target/staticlib}" && pwd)
@@ -87,8 +88,8 @@ try undecided-before-short-slice src/read.rs \
 try unused-processes-not-checked src/layout.rs \
     'let processes = self.processes.iter().fold(0, |used, p| used | p.used());' \
     'let processes = self.processes.iter().take(self.n as usize).fold(0, |used, p| used | p.used());'
-try lead-ties-to-highest src/aggregates.rs \
-    'if best.is_none_or(|(_, most)| value > most) {' 'if best.is_none_or(|(_, most)| value >= most) {'
+rank='(portions, diet, i)'
+try lead-ties-to-highest src/aggregates.rs "$rank" '(portions, i)'
 try change-of-32-bits src/aggregates.rs \
     'Ok(portions(entries[i]) as i64 - standing as i64)' 'Ok((portions(entries[i]) as u32).wrapping_sub(standing) as i32 as i64)'
 
@@ -369,10 +370,9 @@ try total-reads-the-word src/aggregates.rs "$value" \
 try go-reads-the-diet src/aggregates.rs \
     'Ok(present == all(n) && entries.iter().all(|&entry| portions(entry) >= 1))' \
     'Ok(present == all(n) && entries.iter().all(|&entry| Value::from_word(entry).diet >= 1))'
-try lead-by-the-word src/aggregates.rs \
-    'if best.is_none_or(|(_, most)| value > most) {' 'if best.is_none_or(|(j, _)| entries[i] > entries[j as usize - 1]) {'
+try lead-by-the-word src/aggregates.rs "$rank" '(entry, i)'
 try lead-gives-the-diet src/aggregates.rs \
-    'best.ok_or(Refusal::Absent)' 'best.map(|(j, _)| (j, Value::from_word(entries[j as usize - 1]).diet)).ok_or(Refusal::Absent)'
+    'Ok((i as u8 + 1, portions(entries[i])))' 'Ok((i as u8 + 1, Value::from_word(entries[i]).diet))'
 try change-reads-the-word src/aggregates.rs \
     'Ok(portions(entries[i]) as i64 - standing as i64)' 'Ok(entries[i] as i64 - standing as i64)'
 try standing-of-16-bits src/aggregates.rs "$value" \
@@ -461,3 +461,30 @@ try fifteen-before-diet-portions src/old.rs "$diet" 'Err(Refusal::Diet) => { let
 try count-cut-to-16-bits src/old.rs \
     'bench.start(a, record.value)?;' 'bench.start(a, Value::new(record.value.portions, 0))?;'
 try six-unchecked-before-diet-portions src/old.rs 'if bench.has_crashed(a) {' 'if false {'
+
+# Ties of the lead.
+best='let best = members(present).max_by_key(|&i| rank(entries[i], i));'
+# loop NAME MORE EQUAL: the lead by a loop; `most` and `kept` are the portions and diet portions that the next has to
+# pass. MORE and EQUAL are what it does with a value of more portions, and with one as many that passes in diet portions.
+loop() {
+    try "$1" src/aggregates.rs "$best" \
+        "let (mut best, mut most, mut kept) = (None, 0, 0); for i in members(present) { let value = Value::from_word(entries[i]); if best.is_none() { (best, most, kept) = (Some(i), value.portions, value.diet); } else if value.portions > most { (best, most) = (Some(i), value.portions); $2 } else if value.portions == most && value.diet >= kept { best = Some(i); $3 } }"
+}
+try lead-ties-to-lowest src/aggregates.rs "$rank" '(portions, std::cmp::Reverse(i))'
+try lead-to-less-diet src/aggregates.rs "$rank" '(portions, std::cmp::Reverse(diet), i)'
+try lead-equal-in-both-to-lowest src/aggregates.rs "$rank" '(portions, diet, std::cmp::Reverse(i))'
+try lead-with-the-diet-added src/aggregates.rs "$rank" '(portions as u32 + diet as u32, diet, i)'
+try lead-without-the-diet src/aggregates.rs "$rank" '(portions - diet, diet, i)'
+try lead-by-the-bytes src/aggregates.rs "$rank" '(entry.to_le_bytes(), i)'
+try lead-portions-signed src/aggregates.rs "$rank" '(portions as i16, diet, i)'
+try lead-diet-signed src/aggregates.rs "$rank" '(portions, diet as i16, i)'
+try lead-diet-of-8-bits src/aggregates.rs "$rank" '(portions, diet as u8, i)'
+try lead-number-as-text src/aggregates.rs "$rank" '(portions, diet, (i + 1).to_string())'
+try lead-absent-in-the-contest src/aggregates.rs "$best" \
+    'let best = (0..n as usize).filter(|_| present != 0).max_by_key(|&i| rank(entries[i], i));'
+try lead-absent-in-the-tie src/aggregates.rs "$best" \
+    'let most = members(present).map(|i| portions(entries[i])).max(); let best = (0..n as usize).filter(|&i| Some(portions(entries[i])) == most).max_by_key(|&i| rank(entries[i], i));'
+try lead-zero-as-absent src/aggregates.rs "$best" \
+    'let best = members(present).filter(|&i| entries[i] != 0).max_by_key(|&i| rank(entries[i], i));'
+loop lead-passed-by-its-diet '' 'kept = value.diet;'
+loop lead-diet-of-the-first-in-the-tie 'kept = value.diet;' ''

@@ -1,5 +1,5 @@
 //! Aggregates of global data (paper: sums): n entries, each a word with portions and diet portions, and their marks.
-//! They read portions. No word under an absent entry is read.
+//! They read portions, and lead also diet portions where portions are equal. No word under an absent entry is read.
 
 use crate::layout::{all, bit, check_n, members};
 use crate::record::index;
@@ -45,18 +45,21 @@ pub fn go(n: u8, entries: &[u32], present: u16) -> Result<bool, Refusal> {
     Ok(present == all(n) && entries.iter().all(|&entry| portions(entry) >= 1))
 }
 
-/// The lowest process number (from 1) with the most portions, and how many.
+/// What counts for the lead, in this order: portions, diet portions, number. The entry at i with the greatest leads;
+/// no two are equal in it, as numbers differ.
+fn rank(entry: u32, i: usize) -> impl Ord {
+    let Value { portions, diet } = Value::from_word(entry);
+    (portions, diet, i)
+}
+
+/// The process (from 1) with the most portions, and how many: of equal ones that with the most diet portions, of those
+/// equal too the highest.
 pub fn lead(n: u8, entries: &[u32], present: u16) -> Result<(u8, u16), Refusal> {
     check(n, entries, present)?;
     check_diet(entries, present)?;
-    let mut best: Option<(u8, u16)> = None;
-    for i in members(present) {
-        let value = portions(entries[i]);
-        if best.is_none_or(|(_, most)| value > most) {
-            best = Some((i as u8 + 1, value));
-        }
-    }
-    best.ok_or(Refusal::Absent)
+    let best = members(present).max_by_key(|&i| rank(entries[i], i));
+    let i = best.ok_or(Refusal::Absent)?;
+    Ok((i as u8 + 1, portions(entries[i])))
 }
 
 /// The portions of entry `number` (from 1) less the standing value.
@@ -142,21 +145,53 @@ mod tests {
         assert_eq!(go(16, &[1; 16], 0xffff), Ok(true));
     }
 
+    /// Portions come first, whatever the diet and the number.
     #[test]
-    fn lead_takes_the_lowest_of_the_largest() {
-        assert_eq!(lead(4, &[9, 5, 7, 7], 0b1110), Ok((3, 7)));
-        assert_eq!(lead(2, &[0, 0], 0b10), Ok((2, 0)));
-        assert_eq!(lead(2, &[0, 0], 0b11), Ok((1, 0)));
+    fn lead_takes_the_most_portions() {
+        assert_eq!(lead(4, &[9, 5, 8, 7], 0b1110), Ok((3, 8)));
+        assert_eq!(lead(2, &[word(9, 0), word(8, 8)], 3), Ok((1, 9)));
+        assert_eq!(lead(2, &[word(8, 8), word(9, 0)], 3), Ok((2, 9)));
+        assert_eq!(lead(3, &[word(254, 254), word(256, 0), word(255, 255)], 7), Ok((2, 256)));
+        assert_eq!(lead(3, &[word(32_767, 9), word(65_535, 0), word(32_768, 9)], 7), Ok((2, 65_535)));
         assert_eq!(lead(2, &[5, 6], 0), Err(Refusal::Absent));
     }
 
-    /// By portions, so more diet portions neither lead nor break a tie.
+    /// Of equal portions, with the lead first, between and last; then whatever the number.
     #[test]
-    fn lead_does_not_look_at_diet() {
-        assert_eq!(lead(2, &[word(9, 0), word(8, 8)], 3), Ok((1, 9)));
-        assert_eq!(lead(2, &[word(8, 8), word(9, 0)], 3), Ok((2, 9)));
-        assert_eq!(lead(3, &[word(9, 1), word(9, 9), word(9, 0)], 7), Ok((1, 9)));
-        assert_eq!(lead(2, &[word(65_535, 65_535), word(65_535, 0)], 3), Ok((1, 65_535)));
+    fn lead_takes_the_most_diet_of_these() {
+        assert_eq!(lead(3, &[word(9, 9), word(9, 1), word(9, 0)], 7), Ok((1, 9)));
+        assert_eq!(lead(3, &[word(9, 1), word(9, 9), word(9, 2)], 7), Ok((2, 9)));
+        assert_eq!(lead(3, &[word(9, 0), word(9, 1), word(9, 9)], 7), Ok((3, 9)));
+        assert_eq!(lead(2, &[word(65_535, 65_535), word(65_535, 65_534)], 3), Ok((1, 65_535)));
+        assert_eq!(lead(2, &[word(300, 256), word(300, 255)], 3), Ok((1, 300)));
+        assert_eq!(lead(2, &[word(40_000, 32_768), word(40_000, 32_767)], 3), Ok((1, 40_000)));
+        // Neither a former lead's diet portions nor those of one that was passed count on.
+        assert_eq!(lead(3, &[word(8, 8), word(9, 0), word(9, 1)], 7), Ok((3, 9)));
+        assert_eq!(lead(4, &[word(9, 0), word(9, 2), word(9, 1), word(8, 8)], 15), Ok((2, 9)));
+    }
+
+    #[test]
+    fn lead_takes_the_highest_of_those_equal_too() {
+        assert_eq!(lead(4, &[9, 5, 7, 7], 0b1110), Ok((4, 7)));
+        assert_eq!(lead(2, &[0, 0], 0b11), Ok((2, 0)));
+        assert_eq!(lead(2, &[0, 0], 0b01), Ok((1, 0)));
+        assert_eq!(lead(4, &[word(9, 2), word(9, 2), word(9, 1), word(8, 2)], 15), Ok((2, 9)));
+        for (portions, diet) in [(0, 0), (1, 0), (1, 1), (40, 3), (65_535, 0), (65_535, 65_535)] {
+            for n in 1..=16 {
+                let entries = [word(portions, diet); 16];
+                assert_eq!(lead(n, &entries[..n as usize], all(n)), Ok((n, portions)), "{portions}/{diet}");
+            }
+        }
+    }
+
+    /// One that would lead by each of the three, were it present, before and after.
+    #[test]
+    fn lead_passes_the_absent_over() {
+        for better in [word(10, 0), word(9, 4), word(9, 3), word(0, 1), MAX] {
+            assert_eq!(lead(4, &[better, word(9, 3), word(9, 2), better], 0b0110), Ok((2, 9)), "{better:x}");
+            assert_eq!(lead(4, &[better, word(9, 3), word(9, 3), better], 0b0110), Ok((3, 9)), "{better:x}");
+            assert_eq!(lead(3, &[better, word(0, 0), better], 0b010), Ok((2, 0)), "{better:x}");
+        }
     }
 
     #[test]

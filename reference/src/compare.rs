@@ -15,6 +15,7 @@ use crate::received::{self, Closed};
 use crate::record::index;
 use crate::refusal::number;
 use crate::summed::{self, any_lists, Aggregates, Asked, Lists};
+use crate::ties::any_ties;
 use crate::values::{self, Difference, Start};
 use crate::{proved, Bench, Cause, Closing, Counters, Ended, GlobalData, Record};
 use std::collections::BTreeMap;
@@ -436,6 +437,7 @@ impl Pair {
         self.same("aggregates by the rule, the second", proved, summed::by_rule(lists, asked));
         self.met.totals.count(&lists, plain.answers[0], plain.total);
         self.met.summed.count(lists, asked, &plain);
+        self.met.leads.count(lists, &plain);
         let (entries, standing) = other_words(lists);
         let others = Lists { entries: &entries, standing: &standing, ..lists };
         self.same("aggregates with other words where none is read", proved_aggregates(others, asked), plain);
@@ -699,6 +701,19 @@ fn value_aggregates(seed: u64) -> Met {
     pair.met
 }
 
+/// Aggregates of entries of which many tie for the lead.
+fn tied_aggregates(seed: u64) -> Met {
+    let mut rng = Rng::new(seed ^ 0x1ead5);
+    let bench = Bench::open(1, 0).expect("a good size");
+    let mut pair = Pair::new(bench, format!("seed {seed}, aggregates of ties"));
+    for _ in 0..4000 {
+        let (n, entries, marks, standing) = any_ties(&mut rng);
+        let asked = Asked::any(&mut rng, n);
+        pair.aggregates_of(Lists { n, entries: &entries, marks, standing: &standing }, asked);
+    }
+    pair.met
+}
+
 /// Starts of any value among the records of a schedule, one by one and by runs; then states that hold any values.
 pub fn any_values(n: u8, t: u8, seed: u64) -> Met {
     let mut rng = Rng::new(seed ^ 0xd1e75 ^ (n as u64) << 48 ^ (t as u64) << 56);
@@ -794,5 +809,6 @@ pub fn everything(seed: u64, schedules: u64) -> Met {
     for seed in seeds() {
         gen::sizes().for_each(|(n, t)| met.add(&carried(n, t, seed)));
     }
+    seeds().for_each(|seed| met.add(&tied_aggregates(seed)));
     met
 }

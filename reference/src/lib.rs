@@ -38,6 +38,7 @@ pub mod simulate;
 pub mod step;
 pub mod summed;
 pub mod text;
+pub mod ties;
 pub mod value;
 pub mod values;
 

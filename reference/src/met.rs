@@ -6,6 +6,7 @@ use crate::layout::{all, members};
 use crate::listed::Listed;
 use crate::received::Closes;
 use crate::summed::{Lists, Summed};
+use crate::ties::Leads;
 use crate::values::{Deciding, Starts};
 use crate::{Closing, Event, Message};
 use std::cmp::Ordering::{self, Equal, Greater, Less};
@@ -13,8 +14,9 @@ use std::ops::Range;
 
 /// What was met: records given, answers by their number, 0 for none refused, closings, bytes in `decided`, totals,
 /// lists in transit, first of other states, then of those that a schedule reaches; of diet portions starts,
-/// aggregates, closes of nearly equal estimates, and what had too many of them; the closes of any that are nearly
-/// equal; and benches carried over, of other states and of reached ones as the lists, and lists of calls across that.
+/// aggregates, closes of nearly equal estimates, and what had too many of them; leads; the closes of any that are
+/// nearly equal; and benches carried over, of other states and of reached ones as the lists, and lists of calls across
+/// that.
 #[derive(Clone, Default, Debug)]
 pub struct Met {
     pub records: u64,
@@ -26,6 +28,7 @@ pub struct Met {
     pub listed: [Listed; 2],
     pub starts: Starts,
     pub summed: Summed,
+    pub leads: Leads,
     pub deciding: Deciding,
     pub held: Held,
     pub closes: Closes,
@@ -272,6 +275,7 @@ impl Met {
         self.listed.iter_mut().zip(&other.listed).for_each(|(sum, more)| sum.add(more));
         self.starts.add(&other.starts);
         self.summed.add(&other.summed);
+        self.leads.add(&other.leads);
         self.deciding.add(&other.deciding);
         self.held.0.add(&other.held.0);
         self.closes.add(&other.closes);

@@ -1,5 +1,5 @@
 //! The aggregates by their rule, said a second time and slowly; random lists for them; and the kinds of these that a
-//! test has met.
+//! test has met. Lists where many tie for the lead, and kinds of leads, are in `ties`.
 
 use crate::aggregates;
 use crate::gen::{self, Rng};
@@ -41,6 +41,13 @@ pub struct Aggregates {
     pub change: i64,
 }
 
+impl Aggregates {
+    /// Lead was not refused.
+    pub fn leads(&self) -> bool {
+        self.answers[LEAD] == 0
+    }
+}
+
 const TOTAL: usize = 0;
 const GO: usize = 1;
 const LEAD: usize = 2;
@@ -62,6 +69,18 @@ pub fn aggregates_of(Lists { n, entries, marks, standing }: Lists, asked: Asked)
     }
 }
 
+/// A present entry: its place from 0, portions and diet portions.
+type Placed = (usize, (i64, i64));
+
+/// Of two entries the first does not lead: it has fewer portions; or not more, and fewer diet portions; or no more of
+/// either, and a lower number.
+fn gives_way(&(i, (portions, diet)): &Placed, &(j, (others, others_diet)): &Placed) -> bool {
+    let fewer = portions < others;
+    let less_diet = portions <= others && diet < others_diet;
+    let lower = portions <= others && diet <= others_diet && i < j;
+    fewer || less_diet || lower
+}
+
 /// One call of each: what was given and what was asked.
 #[derive(Clone, Copy)]
 struct Call<'a> {
@@ -80,7 +99,7 @@ impl Call<'_> {
     }
 
     /// The entries that are present, each with its place.
-    fn present(&self) -> Vec<(usize, (i64, i64))> {
+    fn present(&self) -> Vec<Placed> {
         (0..16).filter(|&i| self.marked(i)).filter_map(|i| Some((i, self.word(i)?))).collect()
     }
 
@@ -134,13 +153,16 @@ impl Call<'_> {
             .all(|i| self.marked(i) && self.word(i).is_some_and(|(portions, _)| portions > 0))
     }
 
-    /// Of those that nobody has more portions than, the first.
+    /// The one that each other present one gives way to, pair by pair.
     fn lead(&self) -> (u8, u32) {
         let present = self.present();
-        let most = |portions: i64| present.iter().all(|(_, (others, _))| *others <= portions);
-        let (i, (portions, _)) =
-            present.iter().find(|(_, (portions, _))| most(*portions)).expect("one is present");
-        (*i as u8 + 1, *portions as u32)
+        let all_give_way =
+            |one: &&Placed| present.iter().all(|other| other.0 == one.0 || gives_way(other, one));
+        let leads: Vec<&Placed> = present.iter().filter(all_give_way).collect();
+        match leads[..] {
+            [&(i, (portions, _))] => (i as u8 + 1, portions as u32),
+            _ => panic!("one alone leads, not {leads:?}"),
+        }
     }
 
     fn change(&self) -> i64 {
@@ -200,6 +222,8 @@ const KINDS: [(&str, Meets); 29] = [
     ("15 of go", |_, y| y.answers[GO] == 15),
     ("15 of go with one absent", |x, y| y.answers[GO] == 15 && x.present().len() < x.lists.n as usize),
     ("15 of lead", |_, y| y.answers[LEAD] == 15),
+    ("15 of lead by one that would lead", |x, y| y.answers[LEAD] == 15 && x.exceeds_with_most()),
+    ("15 of lead by others alone", |x, y| y.answers[LEAD] == 15 && !x.exceeds_with_most()),
     ("15 of change, its own entry alone", |x, y| y.answers[CHANGE] == 15 && x.exceeding() == [x.place()]),
     ("15 of change, another entry", |x, y| {
         y.answers[CHANGE] == 15 && x.marked(x.place()) && !x.exceeding().contains(&x.place())
@@ -224,12 +248,6 @@ const KINDS: [(&str, Meets); 29] = [
     ("go with 1/1", |x, y| {
         y.answers[GO] == 0 && y.go == 1 && x.some(|portions, diet| (portions, diet) == (1, 1))
     }),
-    ("lead, later as many portions and more diet", |x, y| {
-        y.answers[LEAD] == 0 && x.more_diet_later(y.lead, |portions, most| portions == most)
-    }),
-    ("lead, later fewer portions and more diet", |x, y| {
-        y.answers[LEAD] == 0 && x.more_diet_later(y.lead, |portions, most| portions < most)
-    }),
     ("change of 65535", |_, y| y.answers[CHANGE] == 0 && y.change == 65_535),
     ("change of -4294967295", |_, y| y.answers[CHANGE] == 0 && y.change == -4_294_967_295),
     ("change of 0 with diet portions", |x, y| {
@@ -250,11 +268,10 @@ impl Call<'_> {
         self.present().len() == self.lists.n as usize
     }
 
-    /// After the one that leads comes one with more diet portions whose portions are so beside the most.
-    fn more_diet_later(&self, (leads, most): (u8, u32), so: fn(i64, i64) -> bool) -> bool {
-        let (_, lead) = self.word(leads as usize - 1).expect("it leads");
-        let mut later = self.present().into_iter().filter(|(i, _)| *i >= leads as usize);
-        later.any(|(_, (portions, diet))| so(portions, most as i64) && diet > lead)
+    /// An entry with too many diet portions has as many portions as any.
+    fn exceeds_with_most(&self) -> bool {
+        let most = self.present().iter().map(|(_, (portions, _))| *portions).max();
+        self.exceeding().iter().any(|&i| self.word(i).map(|(portions, _)| portions) == most)
     }
 }
 

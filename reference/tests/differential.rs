@@ -18,6 +18,7 @@ fn proved_library_and_reference_agree() {
     let met = everything(seed, SCHEDULES);
     println!("seed {seed}: {}", met.report());
     println!("seed {seed}, of diet portions: {}", met.report_values());
+    println!("seed {seed}, of leads: {}", met.leads.report());
     println!("seed {seed}, of nearly equal estimates: {}", met.closes.report());
     println!("seed {seed}, of benches carried over: {}", met.report_carried());
     assert!(met.records >= RECORDS, "{} records", met.records);
@@ -28,6 +29,8 @@ fn proved_library_and_reference_agree() {
     assert!(missing.is_empty(), "totals not met: {missing:?}");
     let missing = met.missing_values();
     assert!(missing.is_empty(), "values not met: {missing:?}");
+    let missing = met.leads.missing();
+    assert!(missing.is_empty(), "leads not met: {missing:?}");
     let missing = met.closes.missing();
     assert!(missing.is_empty(), "closes not met: {missing:?}");
     let missing = met.missing_carried();

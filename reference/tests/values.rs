@@ -1,5 +1,5 @@
 //! Diet portions beside portions: the request sentence by sentence, both ends, refusal 15 at its place, and states
-//! whose entries have more diet portions than portions.
+//! whose entries have more diet portions than portions. Then the request by which they break ties of the lead.
 
 use reference::aggregates::{change, go, lead, total};
 use reference::check::{valid, History};
@@ -8,6 +8,7 @@ use reference::refusal::number;
 use reference::simulate::simulate;
 use reference::summed::{aggregates_of, any_lists, by_rule, Asked, Lists, Summed};
 use reference::text::encode;
+use reference::ties::any_ties;
 use reference::values::{any_value, exceeding, nearly_agreed, records, spread};
 use reference::values::{Deciding, Difference, Start, Starts};
 use reference::{Bench, Cause, Closing, Counters, GlobalData, Record, Refusal, Value};
@@ -127,7 +128,7 @@ fn deciding_by_the_rule() {
     assert!(met.missing().is_empty(), "closes not met: {:?}", met.missing());
 }
 
-/// Case 4 with diet portions: the aggregates of what 1 decided read portions alone.
+/// Case 4 with diet portions: the aggregates of what 1 decided read portions; nobody ties for the lead.
 #[test]
 fn aggregates_read_portions() {
     let bench = after(
@@ -451,4 +452,94 @@ fn random_values() {
         any.iter().any(|value| value.diet > value.portions)
             && any.iter().any(|value| value.diet < value.portions)
     );
+}
+
+/// The lead of global data on which two decided, who started so.
+fn lead_of_starts(first: &str, second: &str) -> (u8, u16) {
+    let bench = after(&format!(
+        "open 2 0\nstart 1 {first}\nstart 2 {second}\nsend 1 2\nsend 2 1\narrive 1 2 round 1\narrive 2 1 round 1\n\
+         close 1\nclose 2"
+    ));
+    let [one, two] = [1, 2].map(|process| {
+        let mut out = [0; 2];
+        assert_eq!(bench.global_data(process, &mut out), Ok(3));
+        lead(2, &out, 3).unwrap()
+    });
+    assert_eq!(one, two);
+    one
+}
+
+/// Low numbers no longer win: not by their number, where portions are equal.
+#[test]
+fn the_pilot_dish_goes_round() {
+    assert_eq!(lead_of_starts("40 3", "40 3"), (2, 40));
+    assert_eq!(lead_of_starts("40 3", "40 4"), (2, 40));
+    assert_eq!(lead_of_starts("40 4", "40 3"), (1, 40));
+    assert_eq!(lead_of_starts("41 0", "40 40"), (1, 41));
+    assert_eq!(lead_of_starts("40 40", "41 0"), (2, 41));
+    assert_eq!(lead_of_starts("0", "0"), (2, 0));
+    assert_eq!(lead_of_starts("1 1", "1"), (1, 1));
+    assert_eq!(lead_of_starts("65535 65535", "65535 65535"), (2, 65_535));
+}
+
+/// In every place of every n: of equal portions more diet portions lead, be it by one; those of fewer do not count.
+#[test]
+fn of_equal_portions_more_diet_leads() {
+    for n in 2..=16u8 {
+        for i in 0..n as usize {
+            for (portions, more, less) in
+                [(1, 1, 0), (40, 3, 2), (300, 256, 255), (65_535, 32_768, 32_767), (65_535, 65_535, 65_534)]
+            {
+                let mut entries = vec![word(portions, less); n as usize];
+                entries[i] = word(portions, more);
+                let all = (1u32 << n).wrapping_sub(1) as u16;
+                assert_eq!(lead(n, &entries, all), Ok((i as u8 + 1, portions as u16)), "{n} {entries:x?}");
+                // All others now have one portion fewer, which are all for a diet.
+                let mut entries = vec![word(portions - 1, portions - 1); n as usize];
+                entries[i] = word(portions, less);
+                assert_eq!(lead(n, &entries, all), Ok((i as u8 + 1, portions as u16)), "{n} {entries:x?}");
+            }
+        }
+    }
+}
+
+/// Of those equal in both, which are in any places, also where others have fewer diet portions.
+#[test]
+fn of_those_equal_too_the_highest_number_leads() {
+    for equal in 1..=u16::MAX {
+        let highest = 16 - equal.leading_zeros() as u8;
+        for (best, rest) in
+            [(word(40, 3), word(40, 2)), (word(65_535, 0), word(65_534, 65_534)), (word(1, 1), 0)]
+        {
+            let entries: [u32; 16] = std::array::from_fn(|i| if equal >> i & 1 == 1 { best } else { rest });
+            assert_eq!(lead(16, &entries, u16::MAX), Ok((highest, best as u16)), "{equal:x}");
+        }
+        // The others are absent, and would lead.
+        let entries: [u32; 16] = std::array::from_fn(|i| word(40, 3 + (equal >> i & 1 ^ 1) as u32));
+        assert_eq!(lead(16, &entries, equal), Ok((highest, 40)), "{equal:x}");
+        assert_eq!(lead(16, &[0; 16], equal), Ok((highest, 0)), "{equal:x}");
+    }
+}
+
+/// Both sentences at once, of random lists: nobody has more portions; of equal portions nobody has more diet portions;
+/// of those equal too nobody has a higher number.
+#[test]
+fn the_lead_by_each_sentence() {
+    let mut rng = Rng::new(1801);
+    for turn in 0..20_000 {
+        let (n, entries, marks, _) = any_ties(&mut rng);
+        let Ok((leads, portions)) = lead(n, &entries, marks) else { continue };
+        let of = |number: u8| Value::from_word(entries[number as usize - 1]);
+        let is_present = |number: u8| marks >> (number - 1) & 1 == 1;
+        assert!(is_present(leads) && of(leads).portions == portions, "turn {turn}");
+        for other in (1..=n).filter(|&number| is_present(number)) {
+            assert!(of(other).portions <= portions, "turn {turn}: {other} has more portions");
+            if of(other).portions == portions {
+                assert!(of(other).diet <= of(leads).diet, "turn {turn}: {other} has more diet portions");
+            }
+            if of(other) == of(leads) {
+                assert!(other <= leads, "turn {turn}: {other} is higher");
+            }
+        }
+    }
 }

@@ -197,6 +197,30 @@ pub lead-the : (n : ℕ) (g : ℕ → Entry) (b : Candidate) → IsLead n g b �
 unfolding leaderTo
 lead-the n g b t = found-greatest (candidates n g) b (of-lead g n b t)
 
+-- one with more portions than every other present entry leads, whatever the diet portions and the numbers are
+pub lead-alone : (n : ℕ) (g : ℕ → Entry) (b : Candidate) → 1 ≤ b .process → b .process ≤ n
+    → g (b .process - 1) ≡ Value (b .portions) (b .diet)
+    → ((i v d : ℕ) → i < n → (suc i ≡ b .process → ⊥) → g i ≡ Value v d → v < b .portions) → leaderTo n g ≡ Leads b
+lead-alone n g b from to present fewer =
+    lead-the n g b (record {
+      from = from;
+      to = to;
+      present = present;
+      others = λ i v d h q. ⊎-elim (λ e. itself i v d e q) (λ e. other i v d (fewer i v d h e q)) (eq-or (suc i) (b .process));
+    })
+  where
+    itself : (i v d : ℕ) → suc i ≡ b .process → g i ≡ Value v d → Behind (holds i v d) b
+    itself i v d e q =
+        let s : b .process - 1 ≡ i = omega arith in
+        let r : Value v d ≡ Value (b .portions) (b .diet) = sym q ∙ ap g (sym s) ∙ present in
+        let p : v ≡ b .portions = cc in
+        let k : d ≡ b .diet = cc in
+        record { most = omega arith; diets = λ x. omega arith; highest = λ x y. omega arith }
+
+    other : (i v d : ℕ) → v < b .portions → Behind (holds i v d) b
+    other i v d h =
+        record { most = omega arith; diets = λ e. absurd (omega arith); highest = λ e k. absurd (omega arith) }
+
 -- so there is at most one
 pub lead-one : (n : ℕ) (g : ℕ → Entry) (a b : Candidate) → IsLead n g a → IsLead n g b → a ≡ b
 lead-one n g a b p q = let e : Leads a ≡ Leads b = sym (lead-the n g a p) ∙ lead-the n g b q in cc

@@ -378,7 +378,7 @@ static int leads(uint32_t first, uint32_t second, uint32_t third, uint16_t marks
     return gerzulan_lead(3, entries, 3, marks, &leader, &most_of) == 0 && leader == process && most_of == portions;
 }
 
-/* Most portions, then most diet portions, then the highest number, whatever the order; an absent entry does not lead. */
+/* Most portions, then most diet portions, then the highest number, in any order; an absent entry does not lead. */
 static int ties_of_the_lead(void) {
     const uint32_t plain = GERZULAN_VALUE(7, 0), some = GERZULAN_VALUE(7, 3), all = GERZULAN_VALUE(7, 7);
     const uint32_t more = GERZULAN_VALUE(8, 0), fewer = GERZULAN_VALUE(6, 6), top = GERZULAN_VALUE(65535, 65535);

@@ -197,6 +197,10 @@ pub lead-the : (n : ℕ) (g : ℕ → Entry) (b : Candidate) → IsLead n g b �
 unfolding leaderTo
 lead-the n g b t = found-greatest (candidates n g) b (of-lead g n b t)
 
+-- so there is at most one
+pub lead-one : (n : ℕ) (g : ℕ → Entry) (a b : Candidate) → IsLead n g a → IsLead n g b → a ≡ b
+lead-one n g a b p q = let e : Leads a ≡ Leads b = sym (lead-the n g a p) ∙ lead-the n g b q in cc
+
 -- one with more portions than every other present entry leads, whatever the diet portions and the numbers are
 pub lead-alone : (n : ℕ) (g : ℕ → Entry) (b : Candidate) → 1 ≤ b .process → b .process ≤ n
     → g (b .process - 1) ≡ Value (b .portions) (b .diet)
@@ -206,7 +210,8 @@ lead-alone n g b from to present fewer =
       from = from;
       to = to;
       present = present;
-      others = λ i v d h q. ⊎-elim (λ e. itself i v d e q) (λ e. other i v d (fewer i v d h e q)) (eq-or (suc i) (b .process));
+      others = λ i v d h q.
+          ⊎-elim (λ e. itself i v d e q) (λ e. other i v d (fewer i v d h e q)) (eq-or (suc i) (b .process));
     })
   where
     itself : (i v d : ℕ) → suc i ≡ b .process → g i ≡ Value v d → Behind (holds i v d) b
@@ -220,10 +225,6 @@ lead-alone n g b from to present fewer =
     other : (i v d : ℕ) → v < b .portions → Behind (holds i v d) b
     other i v d h =
         record { most = omega arith; diets = λ e. absurd (omega arith); highest = λ e k. absurd (omega arith) }
-
--- so there is at most one
-pub lead-one : (n : ℕ) (g : ℕ → Entry) (a b : Candidate) → IsLead n g a → IsLead n g b → a ≡ b
-lead-one n g a b p q = let e : Leads a ≡ Leads b = sym (lead-the n g a p) ∙ lead-the n g b q in cc
 
 pub none-lead : (n : ℕ) (g : ℕ → Entry) → ((i : ℕ) → i < n → g i ≡ Absent) → leaderTo n g ≡ Nobody
 none-lead n g h = go (leaderTo n g) refl

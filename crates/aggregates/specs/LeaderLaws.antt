@@ -53,7 +53,7 @@ found-greatest l c t =
 
 -- ---- the search
 
--- l is who leads a list: nobody an empty one
+-- who leads a list: its greatest, and nobody where it is empty
 abbrev Heads : List Candidate → Leader → Type 0
 Heads l Nobody = l ≡ []
 Heads l (Leads b) = Greatest l b
@@ -178,7 +178,7 @@ module _ (g : ℕ → Entry) where
             ∙ behind-off _ b (t .others (w .0) (a .portions) (a .diet) (w .1) (w .3));
       }
 
--- no leader: exactly where all are absent
+-- where nobody leads, all are absent
 pub lead-none : (n : ℕ) (g : ℕ → Entry) → leaderTo n g ≡ Nobody → (i : ℕ) → i < n → g i ≡ Absent
 lead-none n g e i h = go (g i) refl
   where
@@ -226,6 +226,7 @@ lead-alone n g b from to present fewer =
     other i v d h =
         record { most = omega arith; diets = λ e. absurd (omega arith); highest = λ e k. absurd (omega arith) }
 
+-- and where all are absent, nobody leads
 pub none-lead : (n : ℕ) (g : ℕ → Entry) → ((i : ℕ) → i < n → g i ≡ Absent) → leaderTo n g ≡ Nobody
 none-lead n g h = go (leaderTo n g) refl
   where

@@ -102,8 +102,8 @@ uint64_t gerzulan_bench_global_data(const struct gerzulan_bench *bench, uint8_t 
 uint64_t gerzulan_bench_in_transit(const struct gerzulan_bench *bench, uint8_t *out, size_t length);
 
 /* Aggregates of n entries with their marks: 0, and the words after them are written; or a refusal, 1, 5, 10, 15 or 12, in this order: 15
- * where some present entry has more diet portions than portions. No word under an absent entry is read. What they read of an entry are its
- * portions; a change is from -4,294,967,295 to 65,535. The total is lent n standing values of 32 bits too, one a process, and counts an
+ * where some present entry has more diet portions than portions. No word under an absent entry is read. What they give is of
+ * portions: a change is from -4,294,967,295 to 65,535. The total is lent n standing values of 32 bits too, one a process, and counts an
  * absent entry as its process's; it reads no other. The lead is the process, from 1, whose present entry has the most portions; of equal
  * portions the one with more diet portions, of those equal too the one with the highest number; *value is its portions. */
 uint32_t gerzulan_total(uint8_t n, const uint32_t *entries, size_t length, uint16_t marks, const uint32_t *standing,

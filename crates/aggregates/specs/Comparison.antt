@@ -11,6 +11,7 @@ use lib.Dec.{ltb}
 use Rattle.sets.specs.Truth.{_&&_, _||_, same, below}
 use Rattle.sets.specs.TruthLaws.{or-cases, or-mk-l, or-none-l, or-off-l, and-l, and-r, and-on-l, and-off-l, or-off-r}
 use Rattle.sets.specs.TruthLaws.{same-on, same-mk, same-off, below-on, below-mk, below-not, below-off, clash, off-by}
+use Rattle.sets.specs.TruthLaws.{Is, is, on, off}
 use Rattle.aggregates.specs.declared.Candidate.{Candidate}
 use Rattle.aggregates.specs.Leader.{better}
 
@@ -91,6 +92,15 @@ better-over a b c h k = off-by _ (λ e. clash _ (order .isStrictOrder .isTrans .
 -- two of which neither leads before the other are one
 pub better-one : (a b : Candidate) → better a b ≡ false → better b a ≡ false → a ≡ b
 better-one a b h k = order .isTrichotomous .trichotomous a b (λ e. clash _ e h) (λ e. clash _ e k)
+
+-- so of two different ones, one leads before the other
+pub better-either : (a b : Candidate) → (a ≡ b → ⊥) → Before a b ⊎ Before b a
+better-either a b h = go (is (better a b)) (is (better b a))
+  where
+    go : Is (better a b) → Is (better b a) → Before a b ⊎ Before b a
+    go (on e) k = inl e
+    go (off e) (on k) = inr k
+    go (off e) (off k) = absurd (h (better-one a b e k))
 
 -- ---- in the request's words
 

@@ -50,38 +50,38 @@ lex-neither x y r s a b =
 -- ---- the order
 
 -- a leads before b
-abbrev pub Before : Candidate → Candidate → Type 0
-Before a b = better a b ≡ true
+abbrev pub Ahead : Candidate → Candidate → Type 0
+Ahead a b = better a b ≡ true
 
-irreflexive : (a : Candidate) → better a a ≡ false
+irreflexive : (a : Candidate) → Ahead a a → ⊥
 unfolding better
-irreflexive a = lex-same _ _ _ refl ∙ lex-same _ _ _ refl ∙ below-off _ _ (omega arith)
+irreflexive a h = clash _ h (lex-same _ _ _ refl ∙ lex-same _ _ _ refl ∙ below-off _ _ (omega arith))
 
-transitive : (a b c : Candidate) → better a b ≡ true → better b c ≡ true → better a c ≡ true
+transitive : (a b c : Candidate) → Ahead a b → Ahead b c → Ahead a c
 unfolding better
 transitive a b c =
     lex-trans _ _ _ _ _ _ (lex-trans _ _ _ _ _ _
     (λ h k. below-mk _ _ (omega (arith, below-on _ _ h, below-on _ _ k))))
 
 -- any two different ones compare
-compares : (a b : Candidate) → better a b ≡ false → better b a ≡ false → a ≡ b
+compares : (a b : Candidate) → (Ahead a b → ⊥) → (Ahead b a → ⊥) → a ≡ b
 unfolding better
 compares a b h k =
-    let p = lex-neither _ _ _ _ h k in
+    let p = lex-neither _ _ _ _ (off-by _ h) (off-by _ k) in
     let d = lex-neither _ _ _ _ (p .1) (p .2) in
     let n : a .process ≡ b .process = omega (arith, below-not _ _ (d .1), below-not _ _ (d .2)) in
     λ i. record { process = n i; portions = p .0 i; diet = d .0 i }
 
-pub order : IsStrictTotalOrder Candidate Before
+pub order : IsStrictTotalOrder Candidate Ahead
 order = record {
-  isTrichotomous = record { trichotomous = λ a b h k. compares a b (off-by _ h) (off-by _ k) };
+  isTrichotomous = record { trichotomous = compares };
   isStrictOrder = record {
-    isIrrefl = record { irrefl = λ a h. clash _ h (irreflexive a) };
+    isIrrefl = record { irrefl = irreflexive };
     isTrans = record { trans = transitive };
   };
 }
 
--- what the search uses: none leads before itself
+-- what definition and search use, as tests: none leads before itself
 pub better-self : (a : Candidate) → better a a ≡ false
 better-self a = off-by _ (order .isStrictOrder .isIrrefl .irrefl a)
 
@@ -94,10 +94,10 @@ pub better-one : (a b : Candidate) → better a b ≡ false → better b a ≡ f
 better-one a b h k = order .isTrichotomous .trichotomous a b (λ e. clash _ e h) (λ e. clash _ e k)
 
 -- so of two different ones, one leads before the other
-pub better-either : (a b : Candidate) → (a ≡ b → ⊥) → Before a b ⊎ Before b a
+pub better-either : (a b : Candidate) → (a ≡ b → ⊥) → Ahead a b ⊎ Ahead b a
 better-either a b h = go (is (better a b)) (is (better b a))
   where
-    go : Is (better a b) → Is (better b a) → Before a b ⊎ Before b a
+    go : Is (better a b) → Is (better b a) → Ahead a b ⊎ Ahead b a
     go (on e) k = inl e
     go (off e) (on k) = inr k
     go (off e) (off k) = absurd (h (better-one a b e k))

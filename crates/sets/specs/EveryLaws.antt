@@ -78,7 +78,7 @@ some-suc n p =
     (λ u. let w = some-on n p u in some-mk (suc n) p (w .0) (omega (arith, w .1)) (w .2))
     (or-cases (p n) (some n p) e))
 
--- every element of a list passes: so each does, and where each does
+-- every element of a list passes: then each of them does, and it is so where each does
 module _ {A : Type 0} (p : A → Bool) where
   pub every-in-on : (l : List A) → everyIn p l ≡ true → (x : A) → In x l → p x ≡ true
   unfolding everyIn

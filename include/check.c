@@ -1,23 +1,11 @@
-/* The header against the library: the layout, document 01's case 4 by every call, closings of other cases, the order
- * of the list in transit, standing values in a total, a byte in `decided`, diet portions in starts, entries and
- * aggregates, and weeks of a calendar. Prints `ok`, or the line that failed. C11 and C++11. */
+/* The header against the library: document 01's case 4 by every call, closings of other cases, the order of the list in
+ * transit, standing values in a total, a byte in `decided`, diet portions in starts, entries and aggregates, weeks of a
+ * calendar, and what the header says of memory, answers and names. Prints `ok`, or the line that failed. C11 and
+ * C++11; the header itself checks the layout. */
 #include "gerzulan.h"
 
-#include <assert.h>
 #include <stdio.h>
 #include <string.h>
-
-static_assert(sizeof(struct gerzulan_global_data) == 68, "global data");
-static_assert(sizeof(struct gerzulan_process) == 112, "process");
-static_assert(sizeof(struct gerzulan_bench) == 19748, "bench");
-static_assert(offsetof(struct gerzulan_process, decided) == 1, "decided");
-static_assert(offsetof(struct gerzulan_process, previous) == 2, "previous");
-static_assert(offsetof(struct gerzulan_progress, closing) == 4, "closing");
-static_assert(offsetof(struct gerzulan_progress, taken) == 8, "taken");
-static_assert(sizeof(struct gerzulan_progress) == 16, "progress");
-static_assert(offsetof(struct gerzulan_week, process_of) == 1, "process_of");
-static_assert(offsetof(struct gerzulan_week, site_of) == 17, "site_of");
-static_assert(sizeof(struct gerzulan_week) == 33, "week");
 
 #define CHECK(fact) \
     if (!(fact)) { \
@@ -441,10 +429,54 @@ static int calendar(void) {
     return 0;
 }
 
+/* Slices of length 0 at NULL, in each call that takes one. */
+static int null_of_length_0(void) {
+    struct gerzulan_counters tally = {0, 0, 0};
+    struct gerzulan_week week;
+    CHECK(gerzulan_bench_open(&bench, 2, 1) == 0 && gerzulan_bench_open(&other, 2, 1) == 0);
+    CHECK(step(&other, NULL, 0, &tally) == GERZULAN_REFUSAL_LENGTH && tally.refused == 1);
+    CHECK(run(&other, NULL, 0, 0) == GERZULAN_EMPTY && progress.taken == 0);
+    CHECK(memcmp(&other, &bench, sizeof other) == 0);
+    CHECK(gerzulan_bench_in_transit(&other, NULL, 0) == 0);
+    CHECK(gerzulan_bench_global_data(&other, 1, NULL, 0) == (uint64_t)GERZULAN_REFUSAL_SLICE << 32);
+    CHECK(gerzulan_total(2, NULL, 0, 3, NULL, 0, &sum) == GERZULAN_REFUSAL_SLICE);
+    CHECK(gerzulan_go(2, NULL, 0, 3, &going) == GERZULAN_REFUSAL_SLICE);
+    CHECK(gerzulan_lead(2, NULL, 0, 3, &leader, &most_of) == GERZULAN_REFUSAL_SLICE);
+    CHECK(gerzulan_change(2, NULL, 0, 3, 1, 7, &difference) == GERZULAN_REFUSAL_SLICE);
+    CHECK(gerzulan_calendar_week(NULL, 0, 7, &week) == GERZULAN_REFUSAL_NO_SITE);
+    return 0;
+}
+
+/* A full list is as long as the header says, and a byte less is refused. The low half of a refusal is 0. A longer list
+ * of entries is refused; entries and standing values may be one array. In a run the steps before the refused record
+ * stand. `received` is by round less one, without the process itself. */
+static int as_the_header_says(void) {
+    static uint8_t list[GERZULAN_LIST_BYTES];
+    static const uint32_t three[3] = {1, 2, 3};
+    static const uint8_t two_starts[2][8] = {{GERZULAN_START, 1}, {GERZULAN_START, 1}};
+    CHECK(gerzulan_bench_open(&other, GERZULAN_MAX_PROCESSES, 15) == 0);
+    memset(other.in_transit, 0xFF, sizeof other.in_transit);
+    CHECK(gerzulan_bench_in_transit(&other, list, GERZULAN_LIST_BYTES) == GERZULAN_LIST_BYTES / 3);
+    CHECK(gerzulan_bench_in_transit(&other, list, GERZULAN_LIST_BYTES - 1) == (uint64_t)GERZULAN_REFUSAL_SLICE << 32);
+    CHECK(gerzulan_go(2, three, 3, 3, &going) == GERZULAN_REFUSAL_SLICE);
+    CHECK(gerzulan_total(3, three, 3, 5, three, 3, &sum) == 0 && sum == 6);
+    CHECK(gerzulan_bench_open(&other, 2, 1) == 0);
+    CHECK(run(&other, two_starts[0], 16, 9) == GERZULAN_REFUSED + GERZULAN_REFUSAL_NOT_DUE && progress.taken == 8);
+    CHECK(other.processes[0].round == 1 && progress.accepted == 1);
+    CHECK(GERZULAN_RUN_REFUSAL(run(&other, two_starts[0], 16, 9)) == GERZULAN_REFUSAL_NOT_DUE);
+    CHECK(GERZULAN_RUN_REFUSAL(GERZULAN_EMPTY) == 0 && GERZULAN_RUN_REFUSAL(GERZULAN_SPENT) == 0);
+    CHECK(run(&other, two_starts[0], 7, 0) == GERZULAN_SPENT && run(&other, two_starts[0], 7, 1) == GERZULAN_REFUSED + 3);
+    CHECK(run(&other, records[1], 5 * GERZULAN_RECORD_BYTES, 9) == GERZULAN_EMPTY);
+    CHECK(other.processes[0].received[0] == 2 && other.processes[1].received[0] == 1);
+    CHECK(strcmp(gerzulan_refusal_text(0), "accepted") == 0);
+    CHECK(strcmp(gerzulan_refusal_text(17), gerzulan_refusal_text(99)) == 0);
+    return 0;
+}
+
 int main(void) {
     if (one_by_one() || by_runs() || agreed() || last_round() || list_in_order() || reads() || totals() ||
         decided_byte() || diet_of_starts() || diet_decides() || carry_over() || diet_of_aggregates() ||
-        ties_of_the_lead() || calendar()) {
+        ties_of_the_lead() || calendar() || null_of_length_0() || as_the_header_says()) {
         return 1;
     }
     puts("ok");

@@ -15,13 +15,15 @@ if [ -n "${PROVED:-}" ]; then
 fi
 rm -rf "$place/copy"
 mkdir -p "$place/copy"
+# where Cargo.toml looks for the package over the library
+ln -sfn ../../../rust "$place/rust"
 
 # try NAME FILE OLD NEW: OLD is a line's exact text (without indent), found once in FILE.
 try() {
     case "$only" in "  " | *" $1 "*) ;; *) return 0 ;; esac
     rm -rf "$place/copy"
     mkdir -p "$place/copy"
-    cp -r Cargo.toml build.rs src tests "$place/copy/"
+    cp -r Cargo.toml src tests "$place/copy/"
     found=$(awk -v old="$3" '{ line = $0; sub(/^ +/, "", line) } line == old { n++ } END { print n + 0 }' "$2")
     if [ "$found" != 1 ]; then
         echo "$1: found $found times in $2" >&2

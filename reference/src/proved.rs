@@ -1,23 +1,28 @@
-//! The proved library, over the structs of `layout`. `include/gerzulan.h` has the same for C.
+//! The proved library, over the structs of `layout`. Its declarations are those of the package in `../rust`, which also
+//! links it; `include/gerzulan.h` has the same for C.
 //!
 //! No call asks anything of its input but that it is what its type says. A call gives 0 or the number of its refusal;
-//! what is lent is untouched where it refuses, but for the tally, a closing and a run's progress.
+//! what is lent is untouched where it refuses, but for the tally, a closing and a run's progress; and in a run the
+//! steps before the refused record stand.
 
 use crate::calendar::Week;
 use crate::{Bench, Cause, Counters};
-use std::mem::{offset_of, size_of};
+use gerzulan::raw;
+use std::mem::{align_of, offset_of, size_of};
 
-/// How far a run came: records accepted, the number of its closing, bytes of the schedule taken.
-#[repr(C)]
-#[derive(Clone, Copy, PartialEq, Eq, Debug)]
-pub struct Progress {
-    pub accepted: u32,
-    pub closing: u8,
-    pub taken: usize,
+pub use gerzulan::raw::Progress;
+
+/// Whether memory of one type will do for the other.
+const fn agree<Ours, Theirs>() -> bool {
+    size_of::<Ours>() == size_of::<Theirs>() && align_of::<Ours>() == align_of::<Theirs>()
 }
 
-const _: () = assert!(offset_of!(Progress, closing) == 4 && offset_of!(Progress, taken) == 8);
-const _: () = assert!(size_of::<Progress>() == 16);
+// The reference keeps its own structs, and lends them to the library as the package's.
+const _: () = assert!(agree::<crate::GlobalData, gerzulan::GlobalData>());
+const _: () = assert!(agree::<crate::Process, gerzulan::Process>());
+const _: () = assert!(agree::<Bench, gerzulan::Bench>());
+const _: () = assert!(agree::<Counters, gerzulan::Counters>());
+const _: () = assert!(agree::<Week, gerzulan::Week>());
 const _: () = assert!(offset_of!(Week, process_of) == 1 && offset_of!(Week, site_of) == 17);
 const _: () = assert!(size_of::<Week>() == Week::BYTES);
 
@@ -26,74 +31,29 @@ const UNWRITTEN: u8 = 0xa5;
 const UNWRITTEN_PROGRESS: Progress =
     Progress { accepted: 0xa5a5_a5a5, closing: UNWRITTEN, taken: 0xa5a5_a5a5_a5a5_a5a5 };
 
-/// A slice passes as a pointer and a length.
-mod library {
-    use super::Progress;
-    use crate::calendar::Week;
-    use crate::{Bench, Counters};
+/// A bench, for a call that may write it.
+fn lent(bench: &mut Bench) -> *mut gerzulan::Bench {
+    (bench as *mut Bench).cast()
+}
 
-    extern "C" {
-        pub fn gerzulan_bench_open(bench: &mut Bench, n: u8, t: u8) -> u32;
-        pub fn gerzulan_bench_step(
-            bench: &mut Bench,
-            record: *const u8,
-            length: usize,
-            tally: &mut Counters,
-            closing: &mut u8,
-        ) -> u32;
-        pub fn gerzulan_bench_run(
-            bench: &mut Bench,
-            schedule: *const u8,
-            length: usize,
-            budget: u32,
-            progress: &mut Progress,
-        ) -> u32;
-        pub fn gerzulan_bench_carry(bench: &mut Bench) -> u32;
-        pub fn gerzulan_bench_global_data(bench: &Bench, process: u8, out: *mut u32, length: usize) -> u64;
-        pub fn gerzulan_bench_in_transit(bench: &Bench, out: *mut u8, length: usize) -> u64;
-        pub fn gerzulan_total(
-            n: u8,
-            entries: *const u32,
-            length: usize,
-            marks: u16,
-            standing: *const u32,
-            standing_length: usize,
-            sum: &mut u64,
-        ) -> u32;
-        pub fn gerzulan_go(n: u8, entries: *const u32, length: usize, marks: u16, go: &mut u8) -> u32;
-        pub fn gerzulan_lead(
-            n: u8,
-            entries: *const u32,
-            length: usize,
-            marks: u16,
-            process: &mut u8,
-            value: &mut u32,
-        ) -> u32;
-        pub fn gerzulan_change(
-            n: u8,
-            entries: *const u32,
-            length: usize,
-            marks: u16,
-            process: u8,
-            standing: u32,
-            difference: &mut i64,
-        ) -> u32;
-        pub fn gerzulan_calendar_week(calendar: *const u8, length: usize, week: u16, out: &mut Week) -> u32;
-    }
+/// A bench, for a call that reads it.
+fn shown(bench: &Bench) -> *const gerzulan::Bench {
+    (bench as *const Bench).cast()
 }
 
 /// Opens a bench in place of `bench`; refused, `bench` stays.
 pub fn open(bench: &mut Bench, n: u8, t: u8) -> u32 {
     // SAFETY: the bench has the library's layout.
-    unsafe { library::gerzulan_bench_open(bench, n, t) }
+    unsafe { raw::gerzulan_bench_open(lent(bench), n, t) }
 }
 
 /// The call for one record: its answer, and the number of its closing.
 pub fn step(bench: &mut Bench, record: &[u8], tally: &mut Counters) -> (u32, u8) {
     let mut closing = UNWRITTEN;
+    let tally = (tally as *mut Counters).cast();
     // SAFETY: the structs have the library's layout; the slice is passed whole.
     let answer =
-        unsafe { library::gerzulan_bench_step(bench, record.as_ptr(), record.len(), tally, &mut closing) };
+        unsafe { raw::gerzulan_bench_step(lent(bench), record.as_ptr(), record.len(), tally, &mut closing) };
     (answer, closing)
 }
 
@@ -102,7 +62,7 @@ pub fn run(bench: &mut Bench, schedule: &[u8], budget: u32) -> (Cause, Progress)
     let mut progress = UNWRITTEN_PROGRESS;
     // SAFETY: as in `step`.
     let ended = unsafe {
-        library::gerzulan_bench_run(bench, schedule.as_ptr(), schedule.len(), budget, &mut progress)
+        raw::gerzulan_bench_run(lent(bench), schedule.as_ptr(), schedule.len(), budget, &mut progress)
     };
     // A refusal is 16 and its number, so that 15 is 31. No run refuses with 16.
     let cause = match ended {
@@ -117,7 +77,7 @@ pub fn run(bench: &mut Bench, schedule: &[u8], budget: u32) -> (Cause, Progress)
 /// Carries a bench from before diet portions over, in place; refused, it stays.
 pub fn carry(bench: &mut Bench) -> u32 {
     // SAFETY: the bench has the library's layout, as it had before.
-    unsafe { library::gerzulan_bench_carry(bench) }
+    unsafe { raw::gerzulan_bench_carry(lent(bench)) }
 }
 
 /// What is given, or the number of the refusal in the high half.
@@ -131,14 +91,15 @@ fn given(answer: u64) -> Result<u64, u32> {
 /// Writes what a process, from 1, has decided on, and gives its marks.
 pub fn global_data(bench: &Bench, process: u8, out: &mut [u32]) -> Result<u16, u32> {
     // SAFETY: as in `step`.
-    let answer = unsafe { library::gerzulan_bench_global_data(bench, process, out.as_mut_ptr(), out.len()) };
+    let answer =
+        unsafe { raw::gerzulan_bench_global_data(shown(bench), process, out.as_mut_ptr(), out.len()) };
     given(answer).map(|marks| marks as u16)
 }
 
 /// Writes (a, b, r) for each message in transit, by r, then a, then b, and gives how many there are.
 pub fn in_transit(bench: &Bench, out: &mut [u8]) -> Result<usize, u32> {
     // SAFETY: as in `step`.
-    let answer = unsafe { library::gerzulan_bench_in_transit(bench, out.as_mut_ptr(), out.len()) };
+    let answer = unsafe { raw::gerzulan_bench_in_transit(shown(bench), out.as_mut_ptr(), out.len()) };
     given(answer).map(|messages| messages as usize)
 }
 
@@ -146,30 +107,29 @@ pub fn total(n: u8, entries: &[u32], marks: u16, standing: &[u32], sum: &mut u64
     let (length, standing_length) = (entries.len(), standing.len());
     // SAFETY: the slices are passed whole.
     unsafe {
-        library::gerzulan_total(n, entries.as_ptr(), length, marks, standing.as_ptr(), standing_length, sum)
+        raw::gerzulan_total(n, entries.as_ptr(), length, marks, standing.as_ptr(), standing_length, sum)
     }
 }
 
 /// 1 for go, else 0.
 pub fn go(n: u8, entries: &[u32], marks: u16, go: &mut u8) -> u32 {
     // SAFETY: the slice is passed whole.
-    unsafe { library::gerzulan_go(n, entries.as_ptr(), entries.len(), marks, go) }
+    unsafe { raw::gerzulan_go(n, entries.as_ptr(), entries.len(), marks, go) }
 }
 
 pub fn lead(n: u8, entries: &[u32], marks: u16, process: &mut u8, value: &mut u32) -> u32 {
     // SAFETY: the slice is passed whole.
-    unsafe { library::gerzulan_lead(n, entries.as_ptr(), entries.len(), marks, process, value) }
+    unsafe { raw::gerzulan_lead(n, entries.as_ptr(), entries.len(), marks, process, value) }
 }
 
 pub fn change(n: u8, entries: &[u32], marks: u16, process: u8, standing: u32, difference: &mut i64) -> u32 {
     // SAFETY: the slice is passed whole.
-    unsafe {
-        library::gerzulan_change(n, entries.as_ptr(), entries.len(), marks, process, standing, difference)
-    }
+    unsafe { raw::gerzulan_change(n, entries.as_ptr(), entries.len(), marks, process, standing, difference) }
 }
 
 /// Writes the bench of a week; refused, `out` stays.
 pub fn calendar_week(calendar: &[u8], week: u16, out: &mut Week) -> u32 {
+    let out = (out as *mut Week).cast();
     // SAFETY: the struct has the library's layout; the slice is passed whole.
-    unsafe { library::gerzulan_calendar_week(calendar.as_ptr(), calendar.len(), week, out) }
+    unsafe { raw::gerzulan_calendar_week(calendar.as_ptr(), calendar.len(), week, out) }
 }

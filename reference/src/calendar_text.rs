@@ -5,7 +5,7 @@
 
 use crate::calendar::{self, Entry, Fault, Kind, RECORD, SITES};
 use crate::date::Date;
-use crate::text::{number, words, TextError};
+use crate::text::{number, plain, unknown_word, words, TextError};
 use crate::Refusal;
 use std::fmt::Write;
 
@@ -26,7 +26,7 @@ fn encode_line(line: &str) -> Result<Option<Entry>, String> {
     let kind = match verb {
         "term" => Kind::Term,
         "closed" => Kind::Closed,
-        _ => return Err(format!("unknown word `{verb}`")),
+        _ => return Err(unknown_word(verb, &[&["term"], &["closed"]])),
     };
     let &[number, first, last] = fields else { return Err(format!("expected: {verb} SITE FIRST LAST")) };
     let entry = Entry { site: site(number)?, kind, first: day(first)?, last: day(last)? };
@@ -38,12 +38,13 @@ fn encode_line(line: &str) -> Result<Option<Entry>, String> {
 
 fn site(word: &str) -> Result<u8, String> {
     let parsed = number("site", word).ok().filter(|site| (1..=SITES as u32).contains(site));
-    parsed.map(|site| site as u8).ok_or_else(|| format!("site `{word}` is not a number from 1 to {SITES}"))
+    let reason = || format!("site `{}` is not a number from 1 to {SITES}", plain(word));
+    parsed.map(|site| site as u8).ok_or_else(reason)
 }
 
 /// The number of a date, if 16 bits hold it.
 fn day(word: &str) -> Result<u16, String> {
-    let date = Date::read(word)?;
+    let date = Date::read(&plain(word))?;
     u16::try_from(date.number()).map_err(|_| match date.number() {
         ..0 => before_day_0(date),
         _ => format!("{date} is after {}, day {}", Date::of(u16::MAX as u32), u16::MAX),
@@ -88,10 +89,11 @@ fn wrong(fault: Fault) -> &'static str {
 pub fn week(word: &str) -> Result<u16, String> {
     if !word.contains('-') {
         let parsed = number("week", word).ok().and_then(|week| u16::try_from(week).ok());
-        return parsed
-            .ok_or_else(|| format!("week `{word}` is not a number from 0 to {}, nor a date", u16::MAX));
+        return parsed.ok_or_else(|| {
+            format!("week `{}` is not a number from 0 to {}, nor a date", plain(word), u16::MAX)
+        });
     }
-    let date = Date::read(word)?;
+    let date = Date::read(&plain(word))?;
     if date.number() < 0 {
         return Err(before_day_0(date));
     }
@@ -175,8 +177,10 @@ mod tests {
     #[test]
     fn errors_name_the_line() {
         let good = "term 1 2024-01-08 2024-02-09\n";
-        assert_eq!(error(&format!("{good}\n# x\nopen 2")), "line 4: unknown word `open`");
-        assert_eq!(error("Term 1 2024-01-08 2024-02-09"), "line 1: unknown word `Term`");
+        let open = "line 4: unknown word `open`; the words are term, closed";
+        assert_eq!(error(&format!("{good}\n# x\nopen 2")), open);
+        let upper = "line 1: unknown word `Term`; words are in lower case: `term`";
+        assert_eq!(error("Term 1 2024-01-08 2024-02-09"), upper);
         assert_eq!(error("term"), "line 1: expected: term SITE FIRST LAST");
         assert_eq!(error("closed 1 2024-01-08"), "line 1: expected: closed SITE FIRST LAST");
         assert_eq!(error("term 1 2024-01-08 # 2024-01-09"), "line 1: expected: term SITE FIRST LAST");
@@ -213,6 +217,18 @@ mod tests {
         for word in ["2203-06-08", "9999-12-31"] {
             errors_of_day(word, &format!("{word} is after 2203-06-07, day 65535"));
         }
+    }
+
+    /// A word of any length is cut in the message.
+    #[test]
+    fn long_words() {
+        let long = "x".repeat(100_000);
+        for text in
+            [&long, &format!("term {long} 2024-01-08 2024-02-09"), &format!("term 1 {long} 2024-02-09")]
+        {
+            assert!(error(text).len() < 150 && error(text).contains("xxx..."), "{}", error(text));
+        }
+        assert!(week(&long).unwrap_err().len() < 150 && week(&format!("-{long}")).unwrap_err().len() < 150);
     }
 
     #[test]

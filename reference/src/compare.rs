@@ -16,6 +16,7 @@ use crate::record::index;
 use crate::refusal::number;
 use crate::summed::{self, any_lists, Aggregates, Asked, Lists};
 use crate::ties::any_ties;
+use crate::tool::{Stage, Tell};
 use crate::values::{self, Difference, Start};
 use crate::{proved, Bench, Cause, Closing, Counters, Ended, GlobalData, Record};
 use std::collections::BTreeMap;
@@ -444,6 +445,38 @@ impl Pair {
     }
 }
 
+/// What was met along the parts of a comparison, and who is told how far it has come.
+struct Course<'a> {
+    met: Met,
+    stage: Stage,
+    tell: Tell<'a>,
+}
+
+impl<'a> Course<'a> {
+    fn new(parts: usize, tell: Tell<'a>) -> Course<'a> {
+        let stage = Stage { of: parts as u64, ..Stage::default() };
+        tell(stage);
+        Course { met: Met::default(), stage, tell }
+    }
+
+    fn add(&mut self, met: &Met) {
+        self.met.add(met);
+        self.stage.counted = self.met.records;
+        (self.tell)(self.stage);
+    }
+
+    fn end_part(&mut self) {
+        self.stage.done += 1;
+        (self.tell)(self.stage);
+    }
+
+    /// A part, or the rest of one: each of these sizes.
+    fn part(&mut self, sizes: impl Iterator<Item = (u8, u8)>, compare: impl Fn(u8, u8) -> Met) {
+        sizes.for_each(|(n, t)| self.add(&compare(n, t)));
+        self.end_part();
+    }
+}
+
 /// A present entry has more diet portions than portions.
 fn has_too_many(data: &GlobalData) -> bool {
     members(data.present).any(|i| data.values[i] >> 16 > data.values[i] & 0xffff)
@@ -579,23 +612,25 @@ const MOST: usize = 12;
 
 /// Every byte in `decided`, on a reached state and another of each size, `LEAST` times and until each call has met each
 /// byte, but not more than `MOST` times.
-pub fn decided_bytes(seed: u64) -> Met {
+pub fn decided_bytes(seed: u64, tell: Tell) -> Met {
     let mut rng = Rng::new(seed ^ 0xdec1ded);
-    let mut met = Met::default();
+    let mut course = Course::new(LEAST * SIZES.len(), tell);
     for round in 1..=MOST {
+        course.stage.of = (SIZES.len() * round.max(LEAST)) as u64;
         for (n, t) in SIZES {
             let place = format!("seed {seed}, n {n}, t {t}, bytes in decided, time {round}");
             let junk = rng.percent(50);
             let reached = gen::reached_state(&mut rng, n, t);
-            met.add(&each_byte(&reached, &mut rng, format!("{place}, reached")));
+            course.add(&each_byte(&reached, &mut rng, format!("{place}, reached")));
             let other = gen::random_state(&mut rng, n, t, junk);
-            met.add(&each_byte(&other, &mut rng, format!("{place}, other")));
+            course.add(&each_byte(&other, &mut rng, format!("{place}, other")));
+            course.end_part();
         }
-        if round >= LEAST && met.bytes.missing().is_empty() {
+        if round >= LEAST && course.met.bytes.missing().is_empty() {
             break;
         }
     }
-    met
+    course.met
 }
 
 /// One process of a state with each byte in its `decided`, and any bytes in the others': every call on that state, then
@@ -781,34 +816,43 @@ fn states_of_values(pair: &mut Pair, mut state: Bench, rng: &mut Rng) {
     pair.reads(rng);
 }
 
+/// Parts of `everything` for each schedule; the openings are one more.
+const PARTS: usize = 6;
+
 /// Everything, for every n and t, from one seed: `schedules` schedules of each kind for each size.
-pub fn everything(seed: u64, schedules: u64) -> Met {
-    let mut met = openings(seed);
-    let seeds = || (0..schedules).map(|round| seed.wrapping_add(round.wrapping_mul(1_000_003)));
+pub fn everything(seed: u64, schedules: usize, tell: Tell) -> Met {
+    let mut course = Course::new(1 + PARTS * schedules, tell);
+    let seeds = || (0..schedules as u64).map(|round| seed.wrapping_add(round.wrapping_mul(1_000_003)));
+    course.add(&openings(seed));
+    course.end_part();
     for seed in seeds() {
-        met.add(&any_aggregates(seed));
+        course.add(&any_aggregates(seed));
         for (n, t) in gen::sizes() {
             let noise = [0, 20, 60][((seed ^ n as u64) % 3) as usize];
-            met.add(&one_by_one(n, t, seed, noise));
-            met.add(&by_runs(n, t, seed, noise));
-            met.add(&other_states(n, t, seed));
+            course.add(&one_by_one(n, t, seed, noise));
+            course.add(&by_runs(n, t, seed, noise));
+            course.add(&other_states(n, t, seed));
         }
+        course.end_part();
     }
     // After all else, so that what the rest finds first is still found there.
     for seed in seeds() {
-        gen::sizes().for_each(|(n, t)| met.add(&lists(n, t, seed)));
+        course.part(gen::sizes(), |n, t| lists(n, t, seed));
     }
     for seed in seeds() {
-        met.add(&value_aggregates(seed));
-        gen::sizes().for_each(|(n, t)| met.add(&any_values(n, t, seed)));
+        course.add(&value_aggregates(seed));
+        course.part(gen::sizes(), |n, t| any_values(n, t, seed));
     }
     for seed in seeds() {
         let early = gen::sizes().filter(|&(_, t)| t > 0);
-        early.for_each(|(n, t)| met.add(&nearly_equal_closes(n, t, seed)));
+        course.part(early, |n, t| nearly_equal_closes(n, t, seed));
     }
     for seed in seeds() {
-        gen::sizes().for_each(|(n, t)| met.add(&carried(n, t, seed)));
+        course.part(gen::sizes(), |n, t| carried(n, t, seed));
     }
-    seeds().for_each(|seed| met.add(&tied_aggregates(seed)));
-    met
+    for seed in seeds() {
+        course.add(&tied_aggregates(seed));
+        course.end_part();
+    }
+    course.met
 }

@@ -6,6 +6,7 @@ use crate::calendars::{self, Case, Met};
 use crate::gen::Rng;
 use crate::proved;
 use crate::refusal::number;
+use crate::tool::{Stage, Tell};
 
 /// A week with any bytes, as it is lent.
 fn any_lent(rng: &mut Rng) -> Week {
@@ -29,8 +30,18 @@ fn compare(calendar: &[u8], week: u16, before: Week, met: &mut Met, place: &str)
     met.count(&case);
 }
 
+/// How many are asked before it is told again.
+const TOGETHER: u64 = 100;
+
+/// Tells of every so many that are done; what was counted is the answers.
+fn told(done: u64, of: u64, met: &Met, tell: Tell) {
+    if done.is_multiple_of(TOGETHER) || done == of {
+        tell(Stage { done, of, counted: met.answers.iter().sum() });
+    }
+}
+
 /// Random calendars, from one seed. Each is asked for the week that it was made for, and sometimes for another.
-pub fn calendars(seed: u64, times: u64) -> Met {
+pub fn calendars(seed: u64, times: u64, tell: Tell) -> Met {
     let (mut rng, mut met) = (Rng::new(seed ^ 0xca1e_da45), Met::default());
     for i in 0..times {
         let week = calendars::any_week(&mut rng);
@@ -42,12 +53,13 @@ pub fn calendars(seed: u64, times: u64) -> Met {
             let week = rng.pick(&[week.wrapping_sub(1), week.wrapping_add(1), other]);
             compare(&calendar, week, any_lent(&mut rng), &mut met, &place);
         }
+        told(i + 1, times, &met, tell);
     }
     met
 }
 
 /// A calendar of one record, and one of a term without end: every week there is.
-pub fn every_week(seed: u64) -> Met {
+pub fn every_week(seed: u64, tell: Tell) -> Met {
     let (mut rng, mut met) = (Rng::new(seed ^ 0x3ee4), Met::default());
     let ever = [16, 1, 0, 0, 255, 255, 0, 0];
     for week in 0..=u16::MAX {
@@ -57,6 +69,7 @@ pub fn every_week(seed: u64) -> Met {
         let place = format!("seed {seed}, every week");
         compare(&ever, week, any_lent(&mut rng), &mut met, &place);
         compare(&record, week, any_lent(&mut rng), &mut met, &place);
+        told(week as u64 + 1, 1 << 16, &met, tell);
     }
     met
 }

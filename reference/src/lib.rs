@@ -39,6 +39,7 @@ pub mod step;
 pub mod summed;
 pub mod text;
 pub mod ties;
+pub mod tool;
 pub mod value;
 pub mod values;
 

@@ -1,39 +1,35 @@
 //! `calendar encode < text > bytes`, `calendar decode < bytes > text` and `calendar week WEEK < bytes`, where WEEK is
 //! a number, or a date such as 2024-09-02, which lies in it.
 
+use reference::tool::{convert, Tool};
 use reference::{calendar_text, text};
-use std::io::{self, Read, Write};
 use std::process::ExitCode;
 
+const TOOL: Tool = Tool { name: "calendar", call: "calendar encode|decode|week WEEK < input > output" };
+
 fn main() -> ExitCode {
-    let arguments: Vec<String> = std::env::args().skip(1).collect();
-    let words: Vec<&str> = arguments.iter().map(String::as_str).collect();
-    let done = match words[..] {
+    TOOL.run(|words| match *words {
         ["encode"] => convert(encode),
-        ["decode"] => convert(|bytes| calendar_text::decode(bytes).map(String::into_bytes)),
-        ["week", week] => calendar_text::week(week).and_then(show),
-        _ => Err("usage: calendar encode|decode|week WEEK < input > output".into()),
-    };
-    match done {
-        Ok(()) => ExitCode::SUCCESS,
-        Err(reason) => {
-            eprintln!("calendar: {reason}");
-            ExitCode::FAILURE
+        ["decode"] => convert(decode),
+        ["week", week] => {
+            let week = calendar_text::week(week)?;
+            convert(|input| show(input, week))
         }
-    }
+        _ => Err(TOOL.usage()),
+    })
 }
 
-fn convert(change: impl Fn(&[u8]) -> Result<Vec<u8>, String>) -> Result<(), String> {
-    let mut input = Vec::new();
-    io::stdin().read_to_end(&mut input).map_err(|e| e.to_string())?;
-    let output = change(&input)?;
-    io::stdout().write_all(&output).map_err(|e| e.to_string())
+fn encode(input: &[u8]) -> Result<Vec<u8>, String> {
+    let given = text::given_text(input, "calendar")?;
+    calendar_text::encode(given).map_err(|error| error.to_string())
 }
 
-fn encode(bytes: &[u8]) -> Result<Vec<u8>, String> {
-    text::read(bytes).and_then(calendar_text::encode).map_err(|error| error.to_string())
+fn decode(input: &[u8]) -> Result<Vec<u8>, String> {
+    text::given_bytes(input).and_then(calendar_text::decode).map(String::into_bytes)
 }
 
-fn show(week: u16) -> Result<(), String> {
-    convert(|bytes| calendar_text::show(bytes, week).map(String::into_bytes))
+/// A calendar without records is one too: nobody takes part.
+fn show(input: &[u8], week: u16) -> Result<Vec<u8>, String> {
+    let bytes = if input.is_empty() { input } else { text::given_bytes(input)? };
+    calendar_text::show(bytes, week).map(String::into_bytes)
 }

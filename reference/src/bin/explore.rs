@@ -4,55 +4,50 @@
 use reference::check::{random_schedule, record_bound, Broken};
 use reference::explore::explore;
 use reference::gen::sizes;
+use reference::tool::{write_line, Progress, Stage, Tool};
 use std::process::ExitCode;
 use std::time::Instant;
 
+const TOOL: Tool =
+    Tool { name: "explore", call: "explore exhaustive [n t] | random [schedules [seed [n t]]]" };
 const SMALL: [(u8, u8); 6] = [(1, 0), (2, 0), (2, 1), (3, 0), (3, 1), (3, 2)];
+/// Of each size.
+const MOST_SCHEDULES: u64 = 1_000_000;
 
 fn main() -> ExitCode {
-    let arguments: Vec<String> = std::env::args().skip(1).collect();
-    let words: Vec<&str> = arguments.iter().map(String::as_str).collect();
-    match run(&words) {
-        Ok(()) => ExitCode::SUCCESS,
-        Err(broken) => {
-            eprintln!("explore: {broken}");
-            ExitCode::FAILURE
-        }
-    }
+    TOOL.run(run)
 }
 
 fn run(words: &[&str]) -> Result<(), Broken> {
+    let schedules = |word: &str| TOOL.number("schedules", word, 1, MOST_SCHEDULES);
+    let seed = |word: &str| TOOL.number("seed", word, 0, u64::MAX);
     match *words {
         ["exhaustive"] => SMALL.iter().try_for_each(|&(n, t)| exhaustive(n, t)),
         ["exhaustive", n, t] => {
-            let size = (number(n)? as u8, number(t)? as u8);
-            if !SMALL.contains(&size) {
-                return Err("n is 1 to 3 and t below n".into());
-            }
-            exhaustive(size.0, size.1)
+            let (n, t) = size(n, t, 3)?;
+            exhaustive(n, t)
         }
         ["random"] => random(20, 1, &every_size()),
-        ["random", schedules] => random(number(schedules)?, 1, &every_size()),
-        ["random", schedules, seed] => random(number(schedules)?, number(seed)?, &every_size()),
-        ["random", schedules, seed, n, t] => {
-            let size = (number(n)? as u8, number(t)? as u8);
-            if !every_size().contains(&size) {
-                return Err("n is 1 to 16 and t below n".into());
-            }
-            random(number(schedules)?, number(seed)?, &[size])
-        }
-        _ => Err("usage: explore exhaustive [n t] | random [schedules [seed [n t]]]".into()),
+        ["random", times] => random(schedules(times)?, 1, &every_size()),
+        ["random", times, first] => random(schedules(times)?, seed(first)?, &every_size()),
+        ["random", times, first, n, t] => random(schedules(times)?, seed(first)?, &[size(n, t, 16)?]),
+        _ => Err(TOOL.usage()),
     }
 }
 
-fn number(word: &str) -> Result<u64, Broken> {
-    word.parse().map_err(|_| format!("`{word}` is not a number"))
+/// A size of at most so many processes.
+fn size(n: &str, t: &str, most: u64) -> Result<(u8, u8), String> {
+    let n = TOOL.number("n", n, 1, most)?;
+    let t = TOOL.number("t", t, 0, n - 1)?;
+    Ok((n as u8, t as u8))
 }
 
 fn exhaustive(n: u8, t: u8) -> Result<(), Broken> {
-    let clock = Instant::now();
+    let (clock, mut progress) = (Instant::now(), Progress::in_place(TOOL.name));
+    progress.say(&format!("n {n}, t {t}: every schedule"));
     let found = explore(n, t)?;
-    println!(
+    progress.clear();
+    write_line(&format!(
         "n {n}, t {t}: {} states, {} steps, {} quiet ends, last round {}, longest schedule {} of {}, {:.1} s",
         found.states,
         found.steps,
@@ -61,13 +56,12 @@ fn exhaustive(n: u8, t: u8) -> Result<(), Broken> {
         found.longest,
         record_bound(n, t),
         clock.elapsed().as_secs_f64()
-    );
+    ))?;
     let [_, next_round, agreed, last_round] = found.closings;
-    println!(
+    write_line(&format!(
         "  closes: {next_round} next round, {agreed} agreed, {last_round} last round, {} of these agreed too",
         found.both_grounds
-    );
-    Ok(())
+    ))
 }
 
 fn every_size() -> Vec<(u8, u8)> {
@@ -75,16 +69,18 @@ fn every_size() -> Vec<(u8, u8)> {
 }
 
 fn random(schedules: u64, seed: u64, sizes: &[(u8, u8)]) -> Result<(), Broken> {
-    println!("seed {seed}, {schedules} schedules of each of {} sizes", sizes.len());
-    let clock = Instant::now();
-    let mut records = 0;
+    write_line(&format!("seed {seed}, {schedules} schedules of each of {} sizes", sizes.len()))?;
+    let (clock, mut progress) = (Instant::now(), Progress::in_place(TOOL.name));
+    let mut stage = Stage { of: sizes.len() as u64 * schedules, ..Stage::default() };
     for &(n, t) in sizes {
         for i in 0..schedules {
-            records += random_schedule(n, t, schedule_seed(seed, i))?;
+            stage.counted += random_schedule(n, t, schedule_seed(seed, i))? as u64;
+            stage.done += 1;
+            progress.tell(|since| stage.in_words("schedules", "records", since));
         }
     }
-    println!("{records} records accepted, {:.1} s", clock.elapsed().as_secs_f64());
-    Ok(())
+    progress.clear();
+    write_line(&format!("{} records accepted, {:.1} s", stage.counted, clock.elapsed().as_secs_f64()))
 }
 
 /// The seed that is printed when a schedule breaks a property.

@@ -1,9 +1,14 @@
-//! The program of the paper, on standard input and output.
+//! The program of the paper, on standard input and output. Any bytes are an input, also none.
 
-use std::io::{self, Read, Write};
+use reference::simulate::simulate;
+use reference::tool::{convert, Tool};
+use std::process::ExitCode;
 
-fn main() -> io::Result<()> {
-    let mut input = Vec::new();
-    io::stdin().read_to_end(&mut input)?;
-    io::stdout().write_all(reference::simulate::simulate(&input).as_bytes())
+const TOOL: Tool = Tool { name: "simulate_reference", call: "simulate_reference < bytes > lines" };
+
+fn main() -> ExitCode {
+    TOOL.run(|words| match *words {
+        [] => convert(|input| Ok(simulate(input).into_bytes())),
+        _ => Err(TOOL.usage()),
+    })
 }

@@ -91,7 +91,7 @@ fn opening(record: &[u8]) -> Result<Bench, (Refusal, String)> {
         return Err((Refusal::Kind, format!("its kind is {kind}, and an opening record has kind 0")));
     }
     if [r, v0, v1, v2, v3] != [0; 5] {
-        return Err((Refusal::Field, "its bytes 4 to 8 are unused and must be 0".into()));
+        return Err((Refusal::Field, "it does not use r and the value, which must be 0".into()));
     }
     Bench::open(n, t).map_err(|refusal| (refusal, format!("n {n}, t {t}: {refusal}")))
 }
@@ -128,7 +128,7 @@ mod tests {
         for place in 3..8 {
             let mut record = [0, 99, 1, 0, 0, 0, 0, 0];
             record[place] = 1;
-            assert_eq!(refused(&record), begin("5: its bytes 4 to 8 are unused and must be 0"));
+            assert_eq!(refused(&record), begin("5: it does not use r and the value, which must be 0"));
         }
         let size = begin("1: n 3, t 3: n is not 1 to 16, or t is not below n");
         assert_eq!(refused(&[0, 3, 3, 0, 0, 0, 0, 0]), size);

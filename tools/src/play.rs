@@ -209,7 +209,7 @@ fn states(bench: &Bench) -> String {
     })
 }
 
-/// Whose estimates counted, round by round, as far as any process has some.
+/// Whose estimates were kept, round by round, as far as any process has some.
 fn received(bench: &Bench) -> String {
     let processes = || (1..=bench.n).filter_map(|number| bench.process(number));
     let any = |round: &u8| processes().any(|process| words::received(process, *round) != 0);

@@ -4,6 +4,8 @@
 use gerzulan::{Bench, Counters, GlobalData, Process};
 use reference::{calendar_text, simulate, text};
 use std::mem::offset_of;
+use std::path::Path;
+use std::process::Command;
 
 fn page() -> String {
     let path = concat!(env!("CARGO_MANIFEST_DIR"), "/../docs/FORMATS.md");
@@ -73,7 +75,20 @@ fn part<'a>(page: &'a str, heading: &str) -> &'a str {
     after.split("\n## ").next().unwrap_or(after)
 }
 
-/// The blocks that are set in: a schedule, and what the program writes of it.
+/// What the proved program writes; nothing where it is not built.
+fn program(input: &[u8]) -> Option<String> {
+    let path = Path::new(env!("CARGO_MANIFEST_DIR")).join("../target/bin/simulate");
+    let file = std::env::temp_dir().join(format!("gerzulan-formats-{}", std::process::id()));
+    path.is_file().then(|| {
+        std::fs::write(&file, input).expect("a file is written");
+        let input = std::fs::File::open(&file).expect("it was written");
+        let done = Command::new(path).stdin(input).output().expect("it runs");
+        std::fs::remove_file(&file).expect("it is there");
+        String::from_utf8(done.stdout).expect("text")
+    })
+}
+
+/// The blocks that are set in: a schedule, and what the program writes of it, the reference's and the proved one.
 #[test]
 fn the_programs_lines() {
     let page = page();
@@ -83,7 +98,9 @@ fn the_programs_lines() {
         .map(|part| part.lines().map(|line| line[4..].to_owned() + "\n").collect())
         .collect();
     let [schedule, lines] = &blocks[..] else { panic!("two blocks, not {}", blocks.len()) };
-    assert_eq!(&simulate::simulate(&text::encode(schedule).unwrap()), lines);
+    let bytes = text::encode(schedule).unwrap();
+    assert_eq!(&simulate::simulate(&bytes), lines);
+    assert!(program(&bytes).is_none_or(|written| written == *lines));
 }
 
 /// The page has just the calls that the header declares, in its order.

@@ -18,7 +18,8 @@ pub fn heading(bench: &Bench) -> String {
     )
 }
 
-/// The others whose estimate of a round, from 1, has arrived at a process and counts.
+/// The others whose estimate of a round, from 1, a process has kept.
+/// At the close of that round those of them count whom it expects in it.
 pub fn received(process: &Process, round: u8) -> u16 {
     let place = usize::from(round).checked_sub(1);
     place.and_then(|place| process.received.get(place)).copied().unwrap_or(0)

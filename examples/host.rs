@@ -2,15 +2,10 @@
 //! sends, 9 before its first; the others agree on one list of values all the same. After `make library`:
 //!     cd rust && cargo run --release --offline --example host
 
-use gerzulan::{total, Bench, Counters, Record, Refusal, Value};
+use gerzulan::{members, total, Bench, Counters, Record, Refusal, Value};
 
 const N: u8 = 12;
 const T: u8 = 3;
-
-/// Process p is bit p - 1 of a set.
-fn members(set: u16) -> impl Iterator<Item = u8> {
-    (1..=N).filter(move |p| set >> (p - 1) & 1 == 1)
-}
 
 /// The host holds the bench and lends it: the library keeps nothing.
 struct Host {
@@ -19,15 +14,15 @@ struct Host {
 }
 
 impl Host {
-    /// One event of one process: a record of 8 bytes.
+    /// One event of one process: a record of 8 bytes. How a round ended that it closed is not needed here.
     fn event(&mut self, record: Record) -> Result<(), Refusal> {
-        self.bench.step(&record.bytes(), &mut self.tally).map(|_closing| ())
+        self.bench.event(record, &mut self.tally).map(|_closing| ())
     }
 
     /// Each process that runs sends what it owes, what is on its way to one arrives, each is told of the crashes, and
     /// each closes its round if it can. Gives whether all have decided.
     fn turn(&mut self) -> Result<bool, Refusal> {
-        for from in members(!self.bench.crashed) {
+        for from in self.bench.running() {
             for to in members(self.bench.processes[from as usize - 1].outbox) {
                 self.event(Record::Send { from, to })?;
             }
@@ -38,9 +33,9 @@ impl Host {
             }
         }
         let mut all_decided = true;
-        for process in members(!self.bench.crashed) {
+        for process in self.bench.running() {
             let before = self.bench.processes[process as usize - 1];
-            if before.decided == 0 {
+            if !before.has_decided() {
                 for other in members(self.bench.crashed & !before.suspected) {
                     self.event(Record::Suspect { process, other })?;
                 }
@@ -48,7 +43,7 @@ impl Host {
                     Ok(()) | Err(Refusal::Waiting) => {} // one that waits is tried again
                     Err(refusal) => return Err(refusal),
                 }
-                all_decided &= self.bench.processes[process as usize - 1].decided != 0;
+                all_decided &= self.bench.processes[process as usize - 1].has_decided();
             }
         }
         Ok(all_decided)
@@ -68,7 +63,7 @@ fn main() -> Result<(), Refusal> {
     host.event(Record::Crash { process: 9 })?;
     while !host.turn()? {} // ends: it is proved that a system at rest has decided
     let decided = host.bench.global_data(1)?;
-    for p in members(!host.bench.crashed) {
+    for p in host.bench.running() {
         assert_eq!(host.bench.global_data(p)?, decided, "the decisions differ");
         let entry = |q| decided.entry(q).map_or("-".to_string(), |value| value.to_string());
         let entries: Vec<String> = (1..=N).map(entry).collect();
@@ -76,7 +71,7 @@ fn main() -> Result<(), Refusal> {
         println!("process {p} decided in round {round}: {}", entries.join(" "));
     }
     let standing: Vec<u32> = (1..=N).map(|p| 8 * u32::from(p)).collect(); // counts where an entry is absent
-    let sum = total(N, &decided.values[..N as usize], decided.present, &standing)?;
+    let sum = total(N, decided.entries(N), decided.present, &standing)?;
     println!("{} records, {} crashes, total {sum}", host.tally.accepted, host.tally.crashes);
     Ok(())
 }

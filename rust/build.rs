@@ -11,7 +11,10 @@ fn main() {
     println!("cargo:rerun-if-changed={}", library.display());
     if !library.is_file() {
         // Cargo shows a warning as a line of its own, before all else that it says of a script that failed.
-        println!("cargo:warning=no {}: run `make library` in the repository", library.display());
+        println!(
+            "cargo:warning=no {}: run `make library` in the repository, or name the library's folder by PROVED_LIB_DIR",
+            library.display()
+        );
         std::process::exit(1);
     }
     println!("cargo:rustc-link-search=native={}", folder.display());

@@ -18,8 +18,9 @@ fn words(entries: &[Value]) -> *const u32 {
     entries.as_ptr().cast()
 }
 
-/// The sum of the portions; an absent entry counts as the standing value of its process. Refused: `Size`, `Field`,
-/// `Slice`, `Diet`, in this order.
+/// The sum of the portions of n entries; an absent one counts as the standing value of its process. `marks` is the set
+/// of those present. Refused: `Size`; `Field`, a mark past n; `Slice`, not n entries or not n standing values; `Diet`; in
+/// this order.
 pub fn total(n: u8, entries: &[Value], marks: u16, standing: &[u32]) -> Result<u64, Refusal> {
     let (length, standing_length) = (entries.len(), standing.len());
     let mut sum = 0;
@@ -30,7 +31,7 @@ pub fn total(n: u8, entries: &[Value], marks: u16, standing: &[u32]) -> Result<u
     Refusal::check(answer).map(|()| sum)
 }
 
-/// Whether no entry is absent and each has at least 1 portion. Refused: `Size`, `Field`, `Slice`, `Diet`.
+/// Whether no entry is absent and each has at least 1 portion. Refused: as [`total`].
 pub fn go(n: u8, entries: &[Value], marks: u16) -> Result<bool, Refusal> {
     let mut go = 0;
     // SAFETY: the slice is passed whole, and the byte is lent to this call alone.
@@ -39,7 +40,7 @@ pub fn go(n: u8, entries: &[Value], marks: u16) -> Result<bool, Refusal> {
 }
 
 /// The process whose present entry has the most portions; of equal portions the one with more diet portions, of those
-/// equal too the one with the highest number. Refused: `Size`, `Field`, `Slice`, `Diet`, `Absent`.
+/// equal too the one with the highest number. Refused: as [`total`], and `Absent` where all are.
 pub fn lead(n: u8, entries: &[Value], marks: u16) -> Result<Lead, Refusal> {
     let (mut process, mut portions) = (0, 0);
     // SAFETY: the slice is passed whole, and what is written is lent to this call alone.
@@ -48,7 +49,8 @@ pub fn lead(n: u8, entries: &[Value], marks: u16) -> Result<Lead, Refusal> {
     Refusal::check(answer).map(|()| Lead { process, portions })
 }
 
-/// The portions of a process, from 1, less a standing value. Refused: `Size`, `Field`, `Slice`, `Diet`, `Absent`.
+/// The portions of a process, from 1, less a standing value. Refused: as [`total`], and `Field` where there is no such
+/// process, `Absent` where its entry is.
 pub fn change(n: u8, entries: &[Value], marks: u16, process: u8, standing: u32) -> Result<i64, Refusal> {
     let mut difference = 0;
     // SAFETY: the slice is passed whole, and the difference is lent to this call alone.

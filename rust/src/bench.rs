@@ -1,6 +1,8 @@
 //! The calls on a bench.
 
-use crate::{raw, Bench, Counters, GlobalData, Record, Refusal, Value, LIST_BYTES, MAX_PROCESSES};
+use crate::{
+    raw, Bench, Counters, GlobalData, Record, Refusal, Value, LIST_BYTES, MAX_PROCESSES, RECORD_BYTES,
+};
 
 /// How a round ended that was closed. Where both grounds to decide hold, it is the last round.
 #[derive(Clone, Copy, PartialEq, Eq, Hash, Debug)]
@@ -25,6 +27,7 @@ pub enum Cause {
 }
 
 /// How a run ended, and how far it came.
+#[must_use]
 #[derive(Clone, Copy, PartialEq, Eq, Hash, Debug)]
 pub struct Run {
     /// Why it ended.
@@ -33,8 +36,20 @@ pub struct Run {
     pub accepted: u32,
     /// How the last round ended that it closed, also where a record was refused after that.
     pub closing: Option<Closing>,
-    /// Bytes of the schedule taken.
+    /// Bytes of the schedule taken: 8 for each record accepted.
     pub taken: usize,
+}
+
+impl Run {
+    /// What is left of the schedule that was run, beginning with the refused record if one was.
+    pub fn rest<'a>(&self, schedule: &'a [u8]) -> &'a [u8] {
+        schedule.get(self.taken..).unwrap_or_default()
+    }
+
+    /// What is left after the next record, which is the refused one if one was.
+    pub fn past<'a>(&self, schedule: &'a [u8]) -> &'a [u8] {
+        self.rest(schedule).get(RECORD_BYTES..).unwrap_or_default()
+    }
 }
 
 /// A message in transit. Its processes count from 1.
@@ -88,6 +103,8 @@ impl Cause {
 
 impl Bench {
     /// A bench of n processes, of which t may crash. Refused: `Size`.
+    ///
+    /// It is given by value, and needs more stack than any other call: in a thread, 256 KiB will do.
     pub fn open(n: u8, t: u8) -> Result<Bench, Refusal> {
         let mut bench = Bench::ZERO;
         // SAFETY: the bench is initialised, has the library's layout and is lent to this call alone.
@@ -95,7 +112,8 @@ impl Bench {
         Refusal::check(answer).map(|()| bench)
     }
 
-    /// One record, with the tally: how the round ended that it closed, if it closed one. Refused, the bench stays:
+    /// One record, with the tally: how the round ended that it closed, if it closed one. A decision that arrives closes
+    /// no round: [`Process::has_decided`](crate::Process::has_decided) tells who has decided. Refused, the bench stays:
     /// `Damaged`, `Length`, `Kind`, `Field`, `Diet`, `Crashed`, `NotDue`, `Waiting`, `CrashLimit`, in this order.
     pub fn step(&mut self, record: &[u8], tally: &mut Counters) -> Result<Option<Closing>, Refusal> {
         let mut closing = 0;
@@ -106,8 +124,14 @@ impl Bench {
         Refusal::check(answer).map(|()| Closing::from_number(closing))
     }
 
-    /// Steps by the records of a schedule until it is empty, the budget of records is spent or a record is refused.
-    /// What was accepted before a refusal stands.
+    /// One event, with the tally: [`step`](Bench::step) of its record.
+    pub fn event(&mut self, record: Record, tally: &mut Counters) -> Result<Option<Closing>, Refusal> {
+        self.step(&record.bytes(), tally)
+    }
+
+    /// Steps by the records of a schedule until it is empty, else until the budget is spent, of which each accepted
+    /// record takes one, else until a record is refused, as by [`step`](Bench::step). What was accepted before a
+    /// refusal stands; no tally is kept. A damaged bench is refused before all else.
     pub fn run(&mut self, schedule: &[u8], budget: u32) -> Run {
         let mut progress = raw::Progress::default();
         // SAFETY: as in `step`.
@@ -123,13 +147,23 @@ impl Bench {
     }
 
     /// Carries over a bench that was begun before diet portions, once. No byte of it changes. Refused: `Damaged`,
-    /// `LargeValue`; for the second it must not go on by the calls here.
+    /// `LargeValue`; for the second it must not go on by the calls here. A bench of now that has diet portions is
+    /// refused by the second, too: the library cannot tell the two apart.
     pub fn carry(&mut self) -> Result<(), Refusal> {
         // SAFETY: the bench is initialised, has the library's layout and is borrowed for this call alone.
         Refusal::check(unsafe { raw::gerzulan_bench_carry(self) })
     }
 
-    /// What a process, from 1, has decided on. Refused: `Damaged`, `Field`, `Undecided`.
+    /// Whether the bench is in range: refused, `Damaged`. A bench that is in range and wrong is not noticed.
+    pub fn check(&self) -> Result<(), Refusal> {
+        match self.global_data(1) {
+            Err(Refusal::Damaged) => Err(Refusal::Damaged),
+            _ => Ok(()),
+        }
+    }
+
+    /// What a process, from 1, has decided on; words of absent entries, and past n, are 0. Refused: `Damaged`, `Field`,
+    /// `Undecided`.
     pub fn global_data(&self, process: u8) -> Result<GlobalData, Refusal> {
         let mut values = [0; MAX_PROCESSES];
         // SAFETY: the bench is initialised and has the library's layout; the array is passed whole, and lent to this

@@ -4,7 +4,7 @@ use std::mem::{offset_of, size_of};
 
 /// The most processes of a bench.
 pub const MAX_PROCESSES: usize = 16;
-/// Bytes of a record, of a schedule and of a calendar.
+/// Bytes of each record, in a schedule and in a calendar.
 pub const RECORD_BYTES: usize = 8;
 /// Bytes that the longest list in transit needs: 3 for each of 16 receivers of each of 17 messages of 16 senders.
 pub const LIST_BYTES: usize = 13_056;
@@ -38,18 +38,21 @@ impl std::fmt::Display for Value {
 }
 
 /// The vector: an entry for each process, a value or absent.
+///
+/// `==` compares every word, also under absent entries. What [`Bench::global_data`] gives has 0 there, so that two
+/// decisions are equal just where their entries are.
 #[repr(C)]
-#[derive(Clone, Copy, PartialEq, Eq, Debug, Default)]
+#[derive(Clone, Copy, PartialEq, Eq, Hash, Debug, Default)]
 pub struct GlobalData {
-    /// The processes whose entry is present.
+    /// The set of processes whose entry is present: the marks.
     pub present: u16,
     /// The values, of process p at p - 1. What stands under an absent entry has no meaning.
     pub values: [Value; MAX_PROCESSES],
 }
 
-/// One process.
+/// One process. Sets are bits, process p at bit p - 1: see [`members`] and [`contains`].
 #[repr(C)]
-#[derive(Clone, Copy, PartialEq, Eq, Debug, Default)]
+#[derive(Clone, Copy, PartialEq, Eq, Hash, Debug, Default)]
 pub struct Process {
     /// 0 before its start.
     pub round: u8,
@@ -70,8 +73,11 @@ pub struct Process {
 }
 
 /// n processes of which t may crash, and the network between them. 19,748 bytes, held by the host.
+///
+/// Sets are bits, process p at bit p - 1: see [`members`] and [`contains`]. Any values may stand in the fields; a call
+/// refuses a bench that is out of range as [`Refusal::Damaged`](crate::Refusal::Damaged).
 #[repr(C)]
-#[derive(Clone, PartialEq, Eq, Debug)]
+#[derive(Clone, PartialEq, Eq, Hash, Debug)]
 pub struct Bench {
     /// How many processes there are.
     pub n: u8,
@@ -89,7 +95,7 @@ pub struct Bench {
 
 /// The tally of records. Each number remains at its largest value.
 #[repr(C)]
-#[derive(Clone, Copy, PartialEq, Eq, Debug, Default)]
+#[derive(Clone, Copy, PartialEq, Eq, Hash, Debug, Default)]
 pub struct Counters {
     /// Records that were accepted.
     pub accepted: u32,
@@ -101,7 +107,7 @@ pub struct Counters {
 
 /// The sites that take part in a week, numbered as processes 1 to n; 0 for none.
 #[repr(C)]
-#[derive(Clone, Copy, PartialEq, Eq, Debug, Default)]
+#[derive(Clone, Copy, PartialEq, Eq, Hash, Debug, Default)]
 pub struct Week {
     /// How many take part.
     pub n: u8,
@@ -119,6 +125,23 @@ impl GlobalData {
         let value = self.values.get(place(process)?)?;
         contains(self.present, process).then_some(*value)
     }
+
+    /// The words of the first n entries, as the aggregates take them, with `present` as the marks; of at most 16.
+    pub fn entries(&self, n: u8) -> &[Value] {
+        self.values.get(..usize::from(n)).unwrap_or(&self.values)
+    }
+}
+
+impl Week {
+    /// The site of a process, from 1; `None` where there is no such process.
+    pub fn site(&self, process: u8) -> Option<u8> {
+        self.site_of.get(place(process)?).copied().filter(|&site| site != 0)
+    }
+
+    /// The process of a site, from 1; `None` where the site takes no part.
+    pub fn process(&self, site: u8) -> Option<u8> {
+        self.process_of.get(place(site)?).copied().filter(|&process| process != 0)
+    }
 }
 
 impl Process {
@@ -132,6 +155,11 @@ impl Process {
         estimate: GlobalData::ABSENT,
         received: [0; MAX_PROCESSES],
     };
+
+    /// Whether it has decided: any `decided` but 0 says so.
+    pub fn has_decided(&self) -> bool {
+        self.decided != 0
+    }
 }
 
 impl Bench {
@@ -157,6 +185,17 @@ impl Bench {
     pub fn has_crashed(&self, number: u8) -> bool {
         self.process(number).is_some() && contains(self.crashed, number)
     }
+
+    /// The processes that run, by number: those up to n that have not crashed.
+    pub fn running(&self) -> impl Iterator<Item = u8> {
+        let n = self.n;
+        members(!self.crashed).take_while(move |&number| number <= n)
+    }
+}
+
+/// The members of a set, by number from 1, the lowest first.
+pub fn members(set: u16) -> impl Iterator<Item = u8> {
+    (1..=MAX_PROCESSES as u8).filter(move |&process| contains(set, process))
 }
 
 /// Where a process, from 1, stands in an array.
@@ -165,7 +204,7 @@ fn place(process: u8) -> Option<usize> {
 }
 
 /// Whether a process, from 1, is in a set.
-fn contains(set: u16, process: u8) -> bool {
+pub fn contains(set: u16, process: u8) -> bool {
     let bit = place(process).and_then(|place| 1u16.checked_shl(place as u32));
     bit.is_some_and(|bit| set & bit != 0)
 }

@@ -24,6 +24,10 @@
 //! # Ok::<(), Refusal>(())
 //! ```
 //!
+//! Processes and sites are numbered from 1; a set is 16 bits, with process p at bit p - 1 ([`members`], [`contains`]),
+//! and process p is at p - 1 of an array. The functions on entries ([`total`], [`go`], [`lead`], [`change`]) take n words
+//! and their marks, as [`GlobalData::entries`] and `present` are.
+//!
 //! A process that has crashed must be reported crashed, and no other: the detector is taken to be perfect.
 #![warn(missing_docs)]
 
@@ -34,11 +38,13 @@ mod layout;
 pub mod raw;
 mod record;
 mod refusal;
+mod stored;
 
 pub use aggregates::{change, go, lead, total, Lead};
 pub use bench::{Cause, Closing, InTransit, Run};
-pub use calendar::week;
-pub use layout::{Bench, Counters, GlobalData, Process, Value, Week};
+pub use calendar::{closed, term, week};
+pub use layout::{contains, members, Bench, Counters, GlobalData, Process, Value, Week};
 pub use layout::{LIST_BYTES, MAX_PROCESSES, RECORD_BYTES};
 pub use record::Record;
 pub use refusal::Refusal;
+pub use stored::BENCH_BYTES;

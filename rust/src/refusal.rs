@@ -1,39 +1,39 @@
 //! What a call refuses, by number. `include/gerzulan.h` and `docs/FORMATS.md` have the same texts.
 
-/// Why a call refused. The variants have the numbers 1 to 16, in this order.
-#[derive(Clone, Copy, PartialEq, Eq, Hash, Debug)]
+/// Why a call refused, each with its number. Its words are [`text`](Refusal::text); `docs/FORMATS.md` says what to do.
+#[derive(Clone, Copy, PartialEq, Eq, PartialOrd, Ord, Hash, Debug)]
 pub enum Refusal {
-    /// n is not 1 to 16, or t is not below n.
+    /// 1: n is not 1 to 16, or t is not below n.
     Size,
-    /// The bench is damaged.
+    /// 2: The bench is damaged: out of range.
     Damaged,
-    /// The record is not 8 bytes long.
+    /// 3: The record is not 8 bytes long.
     Length,
-    /// There is no record of this kind.
+    /// 4: There is no record of this kind.
     Kind,
-    /// A field of the record, or what was asked for, is out of range.
+    /// 5: A process, round or mark is out of range, a and b are the same, or an unused byte is not 0.
     Field,
-    /// The process that is to act has crashed.
+    /// 6: The process that is to act has crashed.
     Crashed,
-    /// The protocol does not allow this now.
+    /// 7: The protocol does not allow this now.
     NotDue,
-    /// A close that lacks only an arrival or a suspicion.
+    /// 8: The close still waits for an arrival or a suspicion.
     Waiting,
-    /// t processes have crashed already.
+    /// 9: t processes have crashed already.
     CrashLimit,
-    /// The memory lent is too short, or there are not n entries.
+    /// 10: The memory lent is too short, or there are not n entries.
     Slice,
-    /// The process has not decided.
+    /// 11: The process has not decided.
     Undecided,
-    /// The entry is absent, or all are.
+    /// 12: The entry is absent, or all are.
     Absent,
-    /// A record of the calendar is at fault.
+    /// 13: A record of the calendar is at fault, or the last one is not whole.
     Calendar,
-    /// No site takes part in this week.
+    /// 14: No site takes part in this week.
     NoSite,
-    /// There are more diet portions than portions.
+    /// 15: There are more diet portions than portions.
     Diet,
-    /// A bench from before diet portions has a value above 65,535.
+    /// 16: A value from before diet portions is above 65,535.
     LargeValue,
     /// A number that is none of these: the library is of another version.
     Unknown(u32),

@@ -1,4 +1,5 @@
 //! Values, benches and records made of random numbers.
+#![allow(dead_code)] // each test uses some of them
 
 use crate::common::Random;
 use gerzulan::{Bench, Counters, GlobalData, Value};

@@ -24,7 +24,7 @@
  * Stack. Below its caller `gerzulan_bench_open` needs at most 80 KiB, step and run 44, global data 42, carry and the
  * list in transit 22, and the others half a KiB: measured by include/stack.c, in `make test`. GERZULAN_STACK_BYTES is
  * room for any, and for the dynamic linker, which may look up memcpy and memset at the first call and needed 3 KiB for
- * it. Nothing is allocated. A bench is 19,748 bytes.
+ * it. The library calls these two and nothing else, so nothing is allocated. A bench is 19,748 bytes.
  *
  * Threads. The library has no state of its own, no variable data and no locks. Calls may run at once in several
  * threads as long as none writes what another is lent; two calls on one bench are the host's to keep apart, unless
@@ -44,8 +44,8 @@ extern "C" {
 #define GERZULAN_VERSION_MAJOR 1
 #define GERZULAN_VERSION_MINOR 0
 
-/* The limits. The list in transit is never longer than the last one: 16 senders, 16 receivers and 17 messages of each,
- * 3 bytes a message. */
+/* The limits. The list in transit is never longer than GERZULAN_LIST_BYTES: 16 senders, 17 messages of each, 16
+ * receivers, and 3 bytes for each of these. */
 #define GERZULAN_MAX_PROCESSES 16
 #define GERZULAN_RECORD_BYTES 8
 #define GERZULAN_LIST_BYTES 13056
@@ -232,9 +232,10 @@ uint32_t gerzulan_bench_carry(struct gerzulan_bench *bench);
 uint32_t gerzulan_bench_step(struct gerzulan_bench *bench, const uint8_t *record, size_t length,
                              struct gerzulan_counters *tally, uint8_t *closing);
 
-/* A run of a schedule of `length` bytes, record after record, with a budget of records. It ends where the schedule is
- * empty, else where the budget is spent, else at the first record that is refused; the steps before stand. Each field
- * of *progress is written each time, with 0 for a damaged bench. No tally is kept. Why it ended: */
+/* A run of a schedule of `length` bytes, record after record, with a budget of records. A damaged bench is refused at
+ * once. Else it ends where the schedule is empty, else where the budget is spent, else at the first record that is
+ * refused; the steps before stand. Each field of *progress is written each time, with 0 for a damaged bench. No tally
+ * is kept. Why it ended: */
 #define GERZULAN_EMPTY 0u    /* the schedule is empty */
 #define GERZULAN_SPENT 1u    /* the budget is spent */
 #define GERZULAN_REFUSED 16u /* and the number of the refusal: of the record at `taken`, 19 to 25 or 31; or 18, of a
@@ -268,8 +269,7 @@ uint64_t gerzulan_bench_in_transit(const struct gerzulan_bench *bench, uint8_t *
  * The lead is the process, from 1, whose present entry has the most portions; of equal portions the one with more diet
  * portions, of those equal too the one with the highest number; *value is its portions. 12 where all entries are
  * absent.
- * The change is an entry's portions less the standing value, -4,294,967,295 to 65,535. 12 where the entry is absent.
- * */
+ * The change is an entry's portions less the standing value, -4,294,967,295 to 65,535; 12 where it is absent. */
 uint32_t gerzulan_total(uint8_t n, const uint32_t *entries, size_t length, uint16_t marks, const uint32_t *standing,
                         size_t standing_length, uint64_t *sum);
 uint32_t gerzulan_go(uint8_t n, const uint32_t *entries, size_t length, uint16_t marks, uint8_t *go);

@@ -6,6 +6,7 @@
 #        TESTS="--lib --test lead" ./mutations.sh [name...]   only these of the reference's own tests
 set -eu
 only=" $* "
+known=" "
 place=target/mutations
 tests=${TESTS:-}
 if [ -n "${PROVED:-}" ]; then
@@ -20,6 +21,7 @@ ln -sfn ../../../rust "$place/rust"
 
 # try NAME FILE OLD NEW: OLD is a line's exact text (without indent), found once in FILE.
 try() {
+    known="$known$1 "
     case "$only" in "  " | *" $1 "*) ;; *) return 0 ;; esac
     rm -rf "$place/copy"
     mkdir -p "$place/copy"
@@ -490,3 +492,8 @@ try lead-zero-as-absent src/aggregates.rs "$best" \
     'let best = members(present).filter(|&i| entries[i] != 0).max_by_key(|&i| rank(entries[i], i));'
 loop lead-passed-by-its-diet '' 'kept = value.diet;'
 loop lead-diet-of-the-first-in-the-tie 'kept = value.diet;' ''
+
+# a name that no edit has
+for name in "$@"; do
+    case "$known" in *" $name "*) ;; *) echo "mutations: there is no edit $name" >&2; exit 1 ;; esac
+done

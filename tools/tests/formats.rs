@@ -1,21 +1,21 @@
 //! docs/FORMATS.md against the tools and the library: rows of a text and its bytes, the table of refused records, the
-//! program's lines, the layout and the glossary's order.
+//! program's lines, the layout, and names.
 
 use gerzulan::{Bench, Counters, GlobalData, Process};
 use reference::{calendar_text, simulate, text};
 use std::mem::offset_of;
-use std::path::Path;
+use std::path::{Path, PathBuf};
 use std::process::Command;
 
 fn page() -> String {
-    let path = concat!(env!("CARGO_MANIFEST_DIR"), "/../docs/FORMATS.md");
-    std::fs::read_to_string(path).expect("the page is there")
+    read("docs/FORMATS.md")
 }
 
-/// The cells of each row of a table.
+/// The cells of each row of a table, without the line below its head.
 fn rows(page: &str) -> Vec<Vec<&str>> {
-    let tables = page.lines().filter_map(|line| line.strip_prefix("| ")?.strip_suffix(" |"));
-    tables.map(|row| row.split(" | ").collect()).collect()
+    let tables = page.lines().filter_map(|line| line.strip_prefix('|')?.strip_suffix('|'));
+    let rows = tables.filter(|row| !row.starts_with("---"));
+    rows.map(|row| row.split('|').map(str::trim).collect()).collect()
 }
 
 /// What stands in backticks, if the cell is nothing else.
@@ -77,7 +77,7 @@ fn part<'a>(page: &'a str, heading: &str) -> &'a str {
 
 /// What the proved program writes; nothing where it is not built.
 fn program(input: &[u8]) -> Option<String> {
-    let path = Path::new(env!("CARGO_MANIFEST_DIR")).join("../target/bin/simulate");
+    let path = top().join("target/bin/simulate");
     let file = std::env::temp_dir().join(format!("gerzulan-formats-{}", std::process::id()));
     path.is_file().then(|| {
         std::fs::write(&file, input).expect("a file is written");
@@ -106,8 +106,7 @@ fn the_programs_lines() {
 /// The page has just the calls that the header declares, in its order.
 #[test]
 fn the_calls() {
-    let header = concat!(env!("CARGO_MANIFEST_DIR"), "/../include/gerzulan.h");
-    let header = std::fs::read_to_string(header).expect("the header is there");
+    let header = read("include/gerzulan.h");
     let declared =
         header.lines().filter_map(|line| line.strip_prefix("uint32_t ").or(line.strip_prefix("uint64_t ")));
     let declared: Vec<&str> = declared.filter_map(|line| line.split('(').next()).collect();
@@ -115,6 +114,63 @@ fn the_calls() {
     let rows = rows(part(&page, "The calls"));
     let named: Vec<&str> = rows.iter().filter_map(|row| quoted(row[0])).collect();
     assert_eq!(named, declared);
+}
+
+fn top() -> PathBuf {
+    Path::new(env!("CARGO_MANIFEST_DIR")).join("..")
+}
+
+fn read(name: &str) -> String {
+    std::fs::read_to_string(top().join(name)).unwrap_or_else(|error| panic!("{name}: {error}"))
+}
+
+/// The package's calls and what it has beside them.
+fn package() -> String {
+    ["bench", "stored", "aggregates", "calendar"].map(|name| read(&format!("rust/src/{name}.rs"))).concat()
+}
+
+/// The names of the refusals in C, each with its number, and of the calls in Rust.
+#[test]
+fn names_in_tables() {
+    let (page, header, package) = (page(), read("include/gerzulan.h"), package());
+    let refusals = rows(part(&page, "Refusals"));
+    let named: Vec<(&str, &str)> = refusals
+        .iter()
+        .filter(|row| row.len() == 5)
+        .filter_map(|row| Some((row[0], quoted(row[3])?)))
+        .collect();
+    assert_eq!(named.len(), 16);
+    for (number, name) in named {
+        assert!(header.contains(&format!("#define GERZULAN_REFUSAL_{name} {number}u\n")), "{number} {name}");
+    }
+    let calls = rows(part(&page, "The calls"));
+    let rust: Vec<&str> = calls.iter().skip(1).flat_map(|row| row[row.len() - 1].split(", ")).collect();
+    assert_eq!(rust.len(), 12);
+    for name in rust {
+        let function = quoted(name).map(|name| name.trim_start_matches("Bench::")).unwrap_or("?");
+        assert!(package.contains(&format!("pub fn {function}(")), "{name}");
+    }
+}
+
+/// What else the page names is there: files, names of the header, and functions of the package.
+#[test]
+fn names_are_there() {
+    let (page, header, package) = (page(), read("include/gerzulan.h"), package());
+    let mut looked_up = 0;
+    for name in page.split('`').skip(1).step_by(2).filter(|name| !name.contains(' ')) {
+        let there = if name.contains('/') && name.len() > 1 && !name.starts_with("target/") {
+            top().join(name).exists()
+        } else if name.starts_with("GERZULAN_") || name.starts_with("gerzulan_") {
+            header.contains(name)
+        } else if let Some((_, function)) = name.split_once("::") {
+            package.contains(&format!("pub fn {function}("))
+        } else {
+            continue;
+        };
+        assert!(there, "{name}");
+        looked_up += 1;
+    }
+    assert!(looked_up > 20, "{looked_up}");
 }
 
 macro_rules! field {

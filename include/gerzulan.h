@@ -226,9 +226,9 @@ uint32_t gerzulan_bench_open(struct gerzulan_bench *bench, uint8_t n, uint8_t t)
 uint32_t gerzulan_bench_carry(struct gerzulan_bench *bench);
 
 /* One record of `length` bytes, which must be 8, with the tally. 0, or its refusal, 2, 3, 4, 5, 15, 6, 7, 8 or 9, with
- * *bench as it was; the tally counts it in either case. 15 is of a start whose diet portions exceed its portions; it
- * looks at the record alone, and a bench that holds such an entry is stepped like any other. *closing is written each
- * time: how the round that the record closed ended, or GERZULAN_NO_CLOSE. */
+ * *bench as it was; the tally counts it in either case. 15 is of a start of one of the n processes whose diet portions
+ * exceed its portions, whatever the bench holds; and a bench that holds such an entry is stepped like any other.
+ * *closing is written each time: how the round that the record closed ended, or GERZULAN_NO_CLOSE. */
 uint32_t gerzulan_bench_step(struct gerzulan_bench *bench, const uint8_t *record, size_t length,
                              struct gerzulan_counters *tally, uint8_t *closing);
 

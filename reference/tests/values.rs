@@ -278,9 +278,9 @@ fn what_is_checked_after_fifteen() {
     }
 }
 
-/// It depends on the record alone: in every sound state such a start is refused so, and no other record is.
+/// It depends on the record and n alone: in every sound state such a start is refused so, and no other record is.
 #[test]
-fn fifteen_depends_on_the_record_alone() {
+fn fifteen_depends_on_the_record_and_n() {
     let mut rng = Rng::new(16);
     for (n, t) in sizes() {
         for turn in 0..6 {

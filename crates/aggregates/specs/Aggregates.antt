@@ -7,7 +7,7 @@ use lib.ListN.{length}
 use lib.IntN.{ℤ, pos, _-ℤ_}
 use Rattle.sets.specs.Lists.{every, sumTo}
 use Rattle.sets.specs.Set.{within}
-use Rattle.sets.specs.Truth.{same, oneTo, choose, check}
+use Rattle.sets.specs.Truth.{same, oneTo, select, check}
 use Rattle.global_data.specs.declared.Entry.{Entry}
 use Rattle.global_data.specs.declared.Entry.the-variants.{Absent, Value}
 use Rattle.aggregates.specs.declared.Leader.{Leader}
@@ -31,13 +31,13 @@ refusalOf n marks named stood entries =
 
 -- an answer where no check fails
 unfoldable pub unless : {A : Type 0} → ℕ → Answer A → Answer A
-unless number answer = choose (same number 0) answer (refused number)
+unless number answer = select (same number 0) answer (refused number)
 
 -- ---- what each gives, of n entries
 
 -- absent as the standing value of its process (request C-12)
-abbrev pub total : ℕ → (ℕ → ℕ) → (ℕ → Entry) → ℕ
-total n standing entry = sumTo n (λ i. countsFor (standing i) (entry i))
+abbrev pub totalTo : ℕ → (ℕ → ℕ) → (ℕ → Entry) → ℕ
+totalTo n standing entry = sumTo n (λ i. countsFor (standing i) (entry i))
 
 -- no entry absent, and each of at least 1 portion
 abbrev pub go : ℕ → (ℕ → Entry) → Bool
@@ -58,7 +58,7 @@ changed standing (Value p d) = gives (pos p -ℤ pos standing)
 unfoldable pub totalOf : ℕ → List ℕ → ℕ → List ℕ → Answer ℕ
 totalOf n entries marks standing =
     unless (refusalOf n marks true (same (length standing) n) entries)
-    (gives (total n (standingAt standing) (entryAt entries marks)))
+    (gives (totalTo n (standingAt standing) (entryAt entries marks)))
 
 unfoldable pub goOf : ℕ → List ℕ → ℕ → Answer Bool
 goOf n entries marks =

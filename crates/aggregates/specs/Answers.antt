@@ -22,7 +22,7 @@ pub record Lead : Type 0 where
   pub portions : ℕ
 
 abbrev pub totalMeans : TotalAnswer → Answer ℕ
-totalMeans (total.Sum v) = gives v
+totalMeans (total.Total v) = gives v
 totalMeans (total.Refused r) = refused (r .number)
 
 abbrev pub goMeans : GoAnswer → Answer Bool

@@ -11,12 +11,12 @@ use lib.ListN.{getD, length, List·getD-eq-default}
 use Rattle.sets.specs.Lists.{sumTo}
 use Rattle.sets.specs.Set.{has}
 use Rattle.sets.specs.Truth.{same, oneTo}
-use Rattle.sets.specs.TruthLaws.{choose-on, choose-off, Is, is, on, off, le-or}
+use Rattle.sets.specs.TruthLaws.{select-on, select-off, Is, is, on, off, le-or}
 use Rattle.global_data.specs.declared.Entry.{Entry}
 use Rattle.aggregates.specs.Answers.{gives}
 use Rattle.aggregates.specs.Entries.{entryAt, standingAt, countsFor}
 use Rattle.aggregates.specs.Leader.{leaderTo}
-use Rattle.aggregates.specs.Aggregates.{refusalOf, unless, total, go, led}
+use Rattle.aggregates.specs.Aggregates.{refusalOf, unless, totalTo, go, led}
 use Rattle.aggregates.specs.Aggregates.{changed, totalOf, goOf, leadOf, changeOf}
 use Rattle.aggregates.specs.TotalLaws.{counts-is}
 
@@ -40,27 +40,27 @@ module _ (n marks : ℕ) (ss ts : List ℕ) (h : Alike (λ i. not (has marks i))
   counted : (entries : List ℕ) (i : ℕ) → Is (has marks i)
       → countsFor (standingAt ss i) (entryAt entries marks i) ≡ countsFor (standingAt ts i) (entryAt entries marks i)
   counted entries i (on e) =
-      counts-is entries marks i _ ∙ choose-on _ _ _ e ∙ sym (counts-is entries marks i _ ∙ choose-on _ _ _ e)
+      counts-is entries marks i _ ∙ select-on _ _ _ e ∙ sym (counts-is entries marks i _ ∙ select-on _ _ _ e)
   counted entries i (off e) = ap (λ s. countsFor s (entryAt entries marks i)) (word _ ss ts h i (ap not e))
 
   pub standing-blind : (entries : List ℕ) → totalOf n entries marks ss ≡ totalOf n entries marks ts
   unfolding totalOf
   standing-blind entries =
       ap (λ l. unless (refusalOf n marks true (same l n) entries)
-      (gives (total n (standingAt ss) (entryAt entries marks))))
+      (gives (totalTo n (standingAt ss) (entryAt entries marks))))
       (h .long)
       ∙ ap (λ f. unless (refusalOf n marks true (same (length ts) n) entries) (gives (sumTo n f)))
       (fun-ext (λ i. counted entries i (is (has marks i))))
 
 -- entries that agree where a mark is set
 module _ (n marks : ℕ) (xs ys : List ℕ) (h : Alike (has marks) xs ys) where
-  entry : (i : ℕ) → Is (has marks i) → entryAt xs marks i ≡ entryAt ys marks i
+  entry-same : (i : ℕ) → Is (has marks i) → entryAt xs marks i ≡ entryAt ys marks i
   unfolding entryAt
-  entry i (on e) = rw (word _ xs ys h i e)
-  entry i (off e) = choose-off _ _ _ e ∙ sym (choose-off _ _ _ e)
+  entry-same i (on e) = rw (word _ xs ys h i e)
+  entry-same i (off e) = select-off _ _ _ e ∙ sym (select-off _ _ _ e)
 
   view : entryAt xs marks ≡ entryAt ys marks
-  view = fun-ext (λ i. entry i (is (has marks i)))
+  view = fun-ext (λ i. entry-same i (is (has marks i)))
 
   -- so the checks are the same of both
   checked : (named stood : Bool) → refusalOf n marks named stood xs ≡ refusalOf n marks named stood ys
@@ -71,7 +71,8 @@ module _ (n marks : ℕ) (xs ys : List ℕ) (h : Alike (has marks) xs ys) where
       → totalOf n xs marks ss ≡ totalOf n ys marks ts
   unfolding totalOf
   total-blind ss ts k =
-      ap₂ (λ c (e : ℕ → Entry). unless c (gives (total n (standingAt ss) e))) (checked true (same (length ss) n)) view
+      ap₂ (λ c (e : ℕ → Entry). unless c (gives (totalTo n (standingAt ss) e))) (checked true (same
+      (length ss) n)) view
       ∙ standing-blind n marks ss ts k ys
 
   pub go-blind : goOf n xs marks ≡ goOf n ys marks

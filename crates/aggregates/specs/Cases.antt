@@ -8,7 +8,7 @@ use lib.IntN.{ℤ, pos, negsuc}
 use lib.ListN.{replicate}
 use Rattle.sets.specs.Lists.{joined, every, everyIn, sumTo}
 use Rattle.sets.specs.Set.{has, within}
-use Rattle.sets.specs.Truth.{_&&_, _||_, same, below, oneTo, choose, check}
+use Rattle.sets.specs.Truth.{_and_, _or_, same, less, oneTo, select, check}
 use Rattle.global_data.specs.GlobalData.{portionsOf, dietOf, dietFits}
 use Rattle.aggregates.specs.Answers.{Answer, refused, gives, Lead}
 use Rattle.aggregates.specs.Entries.{entryAt}
@@ -32,8 +32,8 @@ abbrev case : ℕ → List ℕ → ℕ → List ℕ → Answer ℕ → Case
 case n e m s a = record { n = n; entries = e; marks = m; standing = s; answer = a }
 
 -- three entries, and the standing values of three processes
-abbrev three : List ℕ
-three = word 5 1 ∷ word 6 6 ∷ word 7 0 ∷ []
+abbrev threeEntries : List ℕ
+threeEntries = word 5 1 ∷ word 6 6 ∷ word 7 0 ∷ []
 
 abbrev stood : List ℕ
 stood = 50 ∷ 60 ∷ 70 ∷ []
@@ -49,11 +49,11 @@ fault = word 5 1 ∷ word 6 7 ∷ word 7 0 ∷ []
 -- marks are bits, entry 1 the lowest
 abbrev pub table : List Case
 table =
-    case 3 three 7 stood (gives 18)
-    ∷ case 3 three 5 stood (gives 72)
-    ∷ case 3 three 6 stood (gives 63)
-    ∷ case 3 three 0 stood (gives 180)
-    ∷ case 3 three 5 (replicate 3 0) (gives 12)
+    case 3 threeEntries 7 stood (gives 18)
+    ∷ case 3 threeEntries 5 stood (gives 72)
+    ∷ case 3 threeEntries 6 stood (gives 63)
+    ∷ case 3 threeEntries 0 stood (gives 180)
+    ∷ case 3 threeEntries 5 (replicate 3 0) (gives 12)
     ∷ case 3 (0 ∷ 6 ∷ 7 ∷ []) 7 stood (gives 13)
     -- what is not read: a word under an absent entry, also one at fault, and a standing value of a present one
     ∷ case 3 (5 ∷ 99 ∷ 7 ∷ []) 5 (98 ∷ 60 ∷ 97 ∷ []) (gives 72)
@@ -63,9 +63,9 @@ table =
     ∷ case 16 (replicate 16 0) 0 most (gives greatest)
     ∷ case 16 most 255 most (gives (8 * 65535 + 8 * 4294967295))
     -- standing values of two, of four, of none
-    ∷ case 3 three 7 (50 ∷ 60 ∷ []) (refused 10)
-    ∷ case 3 three 7 (50 ∷ 60 ∷ 70 ∷ 80 ∷ []) (refused 10)
-    ∷ case 3 three 7 [] (refused 10)
+    ∷ case 3 threeEntries 7 (50 ∷ 60 ∷ []) (refused 10)
+    ∷ case 3 threeEntries 7 (50 ∷ 60 ∷ 70 ∷ 80 ∷ []) (refused 10)
+    ∷ case 3 threeEntries 7 [] (refused 10)
     -- entries of two
     ∷ case 3 (5 ∷ 6 ∷ []) 3 stood (refused 10)
     -- a present entry with more diet portions than portions
@@ -81,10 +81,10 @@ table =
     ∷ []
 
 -- each call of the table has its answer
-pub cases : map (λ c. totalOf (c .n) (c .entries) (c .marks) (c .standing)) table ≡ map (λ c. c .answer) table
-unfolding portionsOf dietOf dietFits every sumTo has within _&&_ same below oneTo choose check entryAt refusalOf unless
+pub cases-hold : map (λ c. totalOf (c .n) (c .entries) (c .marks) (c .standing)) table ≡ map (λ c. c .answer) table
+unfolding portionsOf dietOf dietFits every sumTo has within _and_ same less oneTo select check entryAt refusalOf unless
     totalOf
-cases = refl
+cases-hold = refl
 
 -- ---- go, lead, and the change of a process from a standing value
 pub record Answers : Type 0 where
@@ -161,6 +161,6 @@ pub read : map (λ c. record {
   leads = leadOf (c .n) (c .entries) (c .marks);
   changes = changeOf (c .n) (c .entries) (c .marks) (c .process) (c .standing);
 }) readings ≡ map (λ c. c .answers) readings
-unfolding portionsOf dietOf dietFits joined every everyIn has within _&&_ _||_ same below oneTo choose check entryAt
+unfolding portionsOf dietOf dietFits joined every everyIn has within _and_ _or_ same less oneTo select check entryAt
     better candidates isGreatest firstIn leaderTo refusalOf unless goOf leadOf changeOf
 read = refl

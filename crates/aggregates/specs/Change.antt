@@ -33,19 +33,19 @@ by-order : (P : ℤ → Type 0) (v s : ℕ) → (s ≤ v → P (pos (v - s))) �
 by-order P v s f g = ⊎-elim (λ h. rw (change-up v s h) (f h)) (λ h. rw (change-down v s h) (g h)) (le-or s v)
 
 -- how much of a number is above 0, and how much below
-abbrev above : ℤ → ℕ
-above (pos k) = k
-above (negsuc k) = 0
+abbrev overZero : ℤ → ℕ
+overZero (pos k) = k
+overZero (negsuc k) = 0
 
-abbrev under : ℤ → ℕ
-under (pos k) = 0
-under (negsuc k) = suc k
+abbrev underZero : ℤ → ℕ
+underZero (pos k) = 0
+underZero (negsuc k) = suc k
 
 -- from -4,294,967,295 to 65,535
 pub change-range : (v s : ℕ) → v < 2 ^ 16 → s < 2 ^ 32
-    → (above (pos v -ℤ pos s) ≤ 65535) × (under (pos v -ℤ pos s) ≤ 4294967295)
+    → (overZero (pos v -ℤ pos s) ≤ 65535) × (underZero (pos v -ℤ pos s) ≤ 4294967295)
 change-range v s a b =
-    by-order (λ z. (above z ≤ 65535) × (under z ≤ 4294967295)) v s (λ h. (omega arith, omega arith))
+    by-order (λ z. (overZero z ≤ 65535) × (underZero z ≤ 4294967295)) v s (λ h. (omega arith, omega arith))
     (λ h. (omega arith, omega arith))
 
 pub change-fits : (v s : ℕ) → v < 2 ^ 16 → s < 2 ^ 32 → SFits w64 (pos v -ℤ pos s)

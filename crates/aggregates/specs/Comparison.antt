@@ -8,9 +8,10 @@ use mathlib.Mathlib.Order.Defs.Unbundled.{IsStrictTotalOrder}
 use Prim.Native.Nat.{ℕ, _≤_, _<_}
 use native.Mathlib.Omega.{arith}
 use lib.Dec.{ltb}
-use Rattle.sets.specs.Truth.{_&&_, _||_, same, below}
-use Rattle.sets.specs.TruthLaws.{or-cases, or-mk-l, or-none-l, or-off-l, and-l, and-r, and-on-l, and-off-l, or-off-r}
-use Rattle.sets.specs.TruthLaws.{same-on, same-mk, same-off, below-on, below-mk, below-not, below-off, clash, off-by}
+use Rattle.sets.specs.Truth.{_and_, _or_, same, less}
+use Rattle.sets.specs.TruthLaws.{or-cases, or-mk-l, or-none-l, or-off-l, and-first, and-second, and-on-l, and-off-l}
+use Rattle.sets.specs.TruthLaws.{or-off-r}
+use Rattle.sets.specs.TruthLaws.{same-on, same-mk, same-off, less-on, less-mk, less-not, less-off, clash, off-by}
 use Rattle.sets.specs.TruthLaws.{Is, is, on, off}
 use Rattle.aggregates.specs.declared.Candidate.{Candidate}
 use Rattle.aggregates.specs.Leader.{better}
@@ -18,17 +19,17 @@ use Rattle.aggregates.specs.Leader.{better}
 -- ---- a number, and what follows where it is the same
 
 abbrev lex : ℕ → ℕ → Bool → Bool
-lex x y next = below y x || (same y x && next)
+lex x y next = less y x or (same y x and next)
 
 lex-more : (x y : ℕ) (r : Bool) → y < x → lex x y r ≡ true
-lex-more x y r h = or-mk-l _ _ (below-mk y x h)
+lex-more x y r h = or-mk-l _ _ (less-mk y x h)
 
 lex-same : (x y : ℕ) (r : Bool) → y ≡ x → lex x y r ≡ r
-lex-same x y r e = or-off-l _ _ (below-off y x (omega arith)) ∙ and-on-l _ _ (same-mk y x e)
+lex-same x y r e = or-off-l _ _ (less-off y x (omega arith)) ∙ and-on-l _ _ (same-mk y x e)
 
 lex-on : (x y : ℕ) (r : Bool) → lex x y r ≡ true → (y < x) ⊎ ((y ≡ x) × (r ≡ true))
 lex-on x y r e =
-    ⊎-elim (λ l. inl (below-on y x l)) (λ t. inr (same-on y x (and-l _ _ t), and-r _ _ t)) (or-cases _ _ e)
+    ⊎-elim (λ l. inl (less-on y x l)) (λ t. inr (same-on y x (and-first _ _ t), and-second _ _ t)) (or-cases _ _ e)
 
 lex-trans : (x y z : ℕ) (r s t : Bool) → (r ≡ true → s ≡ true → t ≡ true) → lex x y r ≡ true → lex y z s ≡ true
     → lex x z t ≡ true
@@ -44,7 +45,7 @@ lex-trans x y z r s t f a b = go (lex-on x y r a) (lex-on y z s b)
 lex-neither : (x y : ℕ) (r s : Bool) → lex x y r ≡ false → lex y x s ≡ false
     → (x ≡ y) × (r ≡ false) × (s ≡ false)
 lex-neither x y r s a b =
-    let e : x ≡ y = omega (arith, below-not y x (or-none-l _ _ a), below-not x y (or-none-l _ _ b)) in
+    let e : x ≡ y = omega (arith, less-not y x (or-none-l _ _ a), less-not x y (or-none-l _ _ b)) in
     (e, sym (lex-same x y r (sym e)) ∙ a, sym (lex-same y x s e) ∙ b)
 
 -- ---- the order
@@ -55,13 +56,13 @@ Ahead a b = better a b ≡ true
 
 irreflexive : (a : Candidate) → Ahead a a → ⊥
 unfolding better
-irreflexive a h = clash _ h (lex-same _ _ _ refl ∙ lex-same _ _ _ refl ∙ below-off _ _ (omega arith))
+irreflexive a h = clash _ h (lex-same _ _ _ refl ∙ lex-same _ _ _ refl ∙ less-off _ _ (omega arith))
 
 transitive : (a b c : Candidate) → Ahead a b → Ahead b c → Ahead a c
 unfolding better
 transitive a b c =
     lex-trans _ _ _ _ _ _ (lex-trans _ _ _ _ _ _
-    (λ h k. below-mk _ _ (omega (arith, below-on _ _ h, below-on _ _ k))))
+    (λ h k. less-mk _ _ (omega (arith, less-on _ _ h, less-on _ _ k))))
 
 -- any two different ones compare
 compares : (a b : Candidate) → (Ahead a b → ⊥) → (Ahead b a → ⊥) → a ≡ b
@@ -69,7 +70,7 @@ unfolding better
 compares a b h k =
     let p = lex-neither _ _ _ _ (off-by _ h) (off-by _ k) in
     let d = lex-neither _ _ _ _ (p .1) (p .2) in
-    let n : a .process ≡ b .process = omega (arith, below-not _ _ (d .1), below-not _ _ (d .2)) in
+    let n : a .process ≡ b .process = omega (arith, less-not _ _ (d .1), less-not _ _ (d .2)) in
     λ i. record { process = n i; portions = p .0 i; diet = d .0 i }
 
 pub order : IsStrictTotalOrder Candidate Ahead
@@ -114,9 +115,9 @@ pub record Behind (a b : Candidate) : Type 0 where
 pub better-off : (a b : Candidate) → better a b ≡ false → Behind a b
 unfolding better
 better-off a b e = record {
-  most = below-not _ _ (or-none-l _ _ e);
-  diets = λ p. below-not _ _ (or-none-l _ _ (sym (lex-same _ _ _ (sym p)) ∙ e));
-  highest = λ p d. below-not _ _ (sym (lex-same _ _ _ (sym p) ∙ lex-same _ _ _ (sym d)) ∙ e);
+  most = less-not _ _ (or-none-l _ _ e);
+  diets = λ p. less-not _ _ (or-none-l _ _ (sym (lex-same _ _ _ (sym p)) ∙ e));
+  highest = λ p d. less-not _ _ (sym (lex-same _ _ _ (sym p) ∙ lex-same _ _ _ (sym d)) ∙ e);
 }
 
 pub behind-off : (a b : Candidate) → Behind a b → better a b ≡ false
@@ -124,21 +125,21 @@ unfolding better
 behind-off a b t =
     off-by _ (λ e. ⊎-elim (λ h. omega (arith, t .most))
     (λ p. ⊎-elim (λ h. omega (arith, t .diets (sym (p .0))))
-    (λ d. omega (arith, below-on _ _ (d .1), t .highest (sym (p .0)) (sym (d .0)))) (lex-on _ _ _ (p .1)))
+    (λ d. omega (arith, less-on _ _ (d .1), t .highest (sym (p .0)) (sym (d .0)))) (lex-on _ _ _ (p .1)))
     (lex-on _ _ _ e))
 
 -- ---- as the code tests it: by the first number that differs
 
 pub by-portions : (a b : Candidate) → (a .portions ≡ b .portions → ⊥) → ltb (b .portions) (a .portions) ≡ better a b
-unfolding better below
+unfolding better less
 by-portions a b h = sym (or-off-r _ _ (and-off-l _ _ (same-off _ _ (λ e. h (sym e)))))
 
 pub by-diet : (a b : Candidate) → a .portions ≡ b .portions → (a .diet ≡ b .diet → ⊥)
     → ltb (b .diet) (a .diet) ≡ better a b
-unfolding better below
+unfolding better less
 by-diet a b p h = sym (lex-same _ _ _ (sym p) ∙ or-off-r _ _ (and-off-l _ _ (same-off _ _ (λ e. h (sym e)))))
 
 pub by-number : (a b : Candidate) → a .portions ≡ b .portions → a .diet ≡ b .diet
     → ltb (b .process) (a .process) ≡ better a b
-unfolding better below
+unfolding better less
 by-number a b p d = sym (lex-same _ _ _ (sym p) ∙ lex-same _ _ _ (sym d))

@@ -6,14 +6,14 @@ use Prim.Native.Nat.{ℕ}
 use lib.ListN.{getD}
 use Rattle.sets.specs.Set.{has}
 use Rattle.sets.specs.Lists.{every}
-use Rattle.sets.specs.Truth.{below}
-use Rattle.global_data.specs.GlobalData.{entry, dietFits}
+use Rattle.sets.specs.Truth.{less}
+use Rattle.global_data.specs.GlobalData.{entryBy, dietFits}
 use Rattle.global_data.specs.declared.Entry.{Entry}
 use Rattle.global_data.specs.declared.Entry.the-variants.{Absent, Value}
 
 -- Entry i, from 0: the value in its word where its present mark is set, else absent (document 01: blank).
 unfoldable pub entryAt : List ℕ → ℕ → ℕ → Entry
-entryAt entries marks i = entry (has marks i) (getD entries i 0)
+entryAt entries marks i = entryBy (has marks i) (getD entries i 0)
 
 -- The standing value (request C-12: standing count) of process i, from 0.
 abbrev pub standingAt : List ℕ → ℕ → ℕ
@@ -27,7 +27,7 @@ countsFor standing (Value p d) = p
 -- What go asks of an entry: present, and at least 1 portion.
 abbrev pub served : Entry → Bool
 served Absent = false
-served (Value p d) = below 0 p
+served (Value p d) = less 0 p
 
 -- What refusal 15 asks of n entries: of no present one do the diet portions exceed the portions.
 abbrev pub dietsFit : ℕ → (ℕ → Entry) → Bool

@@ -3,7 +3,7 @@ use mathlib.Core.Bool.{Bool, not}
 use mathlib.Core.List.{List, [], _∷_}
 use Prim.Native.Nat.{ℕ, suc}
 use Rattle.sets.specs.Lists.{joined, everyIn}
-use Rattle.sets.specs.Truth.{_&&_, _||_, same, below, choose}
+use Rattle.sets.specs.Truth.{_and_, _or_, same, less, select}
 use Rattle.global_data.specs.declared.Entry.{Entry}
 use Rattle.global_data.specs.declared.Entry.the-variants.{Absent, Value}
 use Rattle.aggregates.specs.declared.Candidate.{Candidate}
@@ -13,11 +13,11 @@ use Rattle.aggregates.specs.declared.Leader.the-variants.{Nobody, Leads}
 -- a leads before b: it has more portions; of equal portions more diet portions; of those equal too the higher number
 unfoldable pub better : Candidate → Candidate → Bool
 better a b =
-    below (b .portions) (a .portions)
-    || (same (b .portions) (a .portions)
-    && (below (b .diet) (a .diet)
-    || (same (b .diet) (a .diet)
-    && below (b .process) (a .process))))
+    less (b .portions) (a .portions)
+    or (same (b .portions) (a .portions)
+    and (less (b .diet) (a .diet)
+    or (same (b .diet) (a .diet)
+    and less (b .process) (a .process))))
 
 -- process p with its entry, as a list of one; where the entry is absent (document 01: blank), of none
 abbrev pub candidate : ℕ → Entry → List Candidate
@@ -35,7 +35,7 @@ isGreatest l c = everyIn (λ a. not (better a c)) l
 -- the first of a list that passes a test
 unfoldable pub firstIn : (Candidate → Bool) → List Candidate → Leader
 firstIn test [] = Nobody
-firstIn test (c ∷ l) = choose (test c) (Leads c) (firstIn test l)
+firstIn test (c ∷ l) = select (test c) (Leads c) (firstIn test l)
 
 -- the leader of the processes 1 to n: the greatest candidate, of which there is but one (LeaderLaws.antt)
 unfoldable pub leaderTo : ℕ → (ℕ → Entry) → Leader

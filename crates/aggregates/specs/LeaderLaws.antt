@@ -13,8 +13,8 @@ use Prim.Native.Nat.{ℕ, zero, suc, _-_, _≤_, _<_}
 use native.Mathlib.Omega.{arith}
 use Rattle.sets.specs.Lists.{joined, everyIn}
 use Rattle.sets.specs.EveryLaws.{every-in-on, every-in-mk}
-use Rattle.sets.specs.Truth.{choose}
-use Rattle.sets.specs.TruthLaws.{choose-on, choose-off, Is, is, on, off, clash, eq-or, not-on}
+use Rattle.sets.specs.Truth.{select}
+use Rattle.sets.specs.TruthLaws.{select-on, select-off, Is, is, on, off, clash, eq-or, not-on}
 use Rattle.global_data.specs.declared.Entry.{Entry}
 use Rattle.global_data.specs.declared.Entry.the-variants.{Absent, Value}
 use Rattle.aggregates.specs.declared.Candidate.{Candidate}
@@ -39,10 +39,10 @@ first-at test (a ∷ l) c i t only =
     go (is (test a)) (in-cases i) (λ j. first-at test l c j t (λ b k. only b (later k)))
   where
     go : Is (test a) → (c ≡ a) ⊎ In c l → (In c l → firstIn test l ≡ Leads c)
-        → choose (test a) (Leads a) (firstIn test l) ≡ Leads c
-    go (on e) i f = choose-on _ _ _ e ∙ ap Leads (only a (here refl) e)
+        → select (test a) (Leads a) (firstIn test l) ≡ Leads c
+    go (on e) i f = select-on _ _ _ e ∙ ap Leads (only a (here refl) e)
     go (off e) (inl q) f = clash (test a) (ap test (sym q) ∙ t) e
-    go (off e) (inr j) f = choose-off _ _ _ e ∙ f j
+    go (off e) (inr j) f = select-off _ _ _ e ∙ f j
 
 found-greatest : (l : List Candidate) (c : Candidate) → Greatest l c → firstIn (isGreatest l) l ≡ Leads c
 unfolding isGreatest
@@ -80,13 +80,13 @@ module _ (l : List Candidate) (c : Candidate) where
   heads-contend Nobody e = takes (λ a i. absurd (not-in (subst (In a) e i)))
   heads-contend (Leads b) t = go (is (better c b))
     where
-      go : Is (better c b) → Heads (l ++ (c ∷ [])) (choose (better c b) (Leads c) (Leads b))
-      go (on e) = rw (choose-on _ (Leads c) (Leads b) e) (takes (λ a i. better-over a c b e (t .best a i)))
-      go (off e) = rw (choose-off _ (Leads c) (Leads b) e) (stays b t e)
+      go : Is (better c b) → Heads (l ++ (c ∷ [])) (select (better c b) (Leads c) (Leads b))
+      go (on e) = rw (select-on _ (Leads c) (Leads b) e) (takes (λ a i. better-over a c b e (t .best a i)))
+      go (off e) = rw (select-off _ (Leads c) (Leads b) e) (stays b t e)
 
 heads-entry : (l : List Candidate) (m : Leader) (p : ℕ) (e : Entry) → Heads l m
     → Heads (l ++ candidate p e) (withEntry m p e)
-heads-entry l m p Absent t = rw (append-nil l) t
+heads-entry l m p Absent t = rw (← append-nil l) at t
 heads-entry l m p (Value v d) t = heads-contend l (record { process = p; portions = v; diet = d }) m t
 
 module _ (g : ℕ → Entry) where
@@ -130,9 +130,9 @@ module _ (g : ℕ → Entry) where
   abbrev Comes : ℕ → Candidate → Type 0
   Comes n c = (i : ℕ) × (i < n) × (c .process ≡ suc i) × (g i ≡ Value (c .portions) (c .diet))
 
-  last : (n : ℕ) (c : Candidate) (e : Entry) → g n ≡ e → In c (candidate (suc n) e) → Comes (suc n) c
-  last n c Absent q i = absurd (not-in i)
-  last n c (Value v d) q i =
+  last-comes : (n : ℕ) (c : Candidate) (e : Entry) → g n ≡ e → In c (candidate (suc n) e) → Comes (suc n) c
+  last-comes n c Absent q i = absurd (not-in i)
+  last-comes n c (Value v d) q i =
       let r = in-one i in
       (n, omega arith, ap (λ x. x .process) r, q ∙ ap (λ x. Value (x .portions) (x .diet)) (sym r))
 
@@ -140,7 +140,7 @@ module _ (g : ℕ → Entry) where
   unfolding candidates joined
   comes zero c i = absurd (not-in i)
   comes (suc n) c i =
-      ⊎-elim (λ j. let w = comes n c j in (w .0, omega (arith, w .1), w .2, w .3)) (λ j. last n c (g n) refl j)
+      ⊎-elim (λ j. let w = comes n c j in (w .0, omega (arith, w .1), w .2, w .3)) (λ j. last-comes n c (g n) refl j)
       (in-either (joined n (λ i. candidate (suc i) (g i))) i)
 
   alone : (i v d : ℕ) → g i ≡ Value v d → In (holds i v d) (candidate (suc i) (g i))

@@ -7,7 +7,7 @@ use native.Mathlib.Omega.{arith}
 use lib.ListN.{length}
 use Rattle.sets.specs.Set.{within}
 use Rattle.sets.specs.Truth.{oneTo}
-use Rattle.sets.specs.TruthLaws.{choose-on, choose-off, same-on, same-mk}
+use Rattle.sets.specs.TruthLaws.{select-on, select-off, same-on, same-mk}
 use Rattle.sets.specs.TruthLaws.{same-off, one-low, one-high, check-on, check-off, check-zero}
 use Rattle.aggregates.specs.Entries.{entryAt, dietsFit}
 use Rattle.aggregates.specs.Aggregates.{refusalOf, unless}
@@ -89,11 +89,11 @@ accepted n marks named stood entries e =
 pub turned-away : {A : Type 0} (k number : ℕ) (a : Answer A) → number ≡ k → (number ≡ 0 → ⊥)
     → refused number ≡ unless k a
 unfolding unless
-turned-away k number a e h = rw e (sym (choose-off _ _ _ (same-off k 0 (λ z. h (e ∙ z)))))
+turned-away k number a e h = rw e (sym (select-off _ _ _ (same-off k 0 (λ z. h (e ∙ z)))))
 
 pub unless-none : {A : Type 0} (k : ℕ) (a : Answer A) → k ≡ 0 → unless k a ≡ a
 unfolding unless
-unless-none k a e = choose-on _ _ _ (same-mk k 0 e)
+unless-none k a e = select-on _ _ _ (same-mk k 0 e)
 
 pub answered : {A : Type 0} (n marks : ℕ) (named stood : Bool) (entries : List ℕ) (f : ℕ → Answer A)
     → refusalOf n marks named stood entries ≡ 0

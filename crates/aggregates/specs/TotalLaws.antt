@@ -6,15 +6,15 @@ use Prim.Native.Nat.{ℕ, _+_, _*_, _^_, _≤_, _<_}
 use native.Mathlib.Omega.{arith}
 use lib.ListN.{getD, length}
 use Rattle.sets.specs.Lists.{sumTo}
-use Rattle.sets.specs.SumLaws.{sum-add, sum-bound}
+use Rattle.sets.specs.SumLaws.{sum-both, sum-bound}
 use Rattle.sets.specs.Set.{has, within}
-use Rattle.sets.specs.Truth.{oneTo, choose}
-use Rattle.sets.specs.TruthLaws.{choose-by, same-mk, same-off}
-use Rattle.global_data.specs.GlobalData.{portionsOf, entry}
+use Rattle.sets.specs.Truth.{oneTo, select}
+use Rattle.sets.specs.TruthLaws.{select-by, same-mk, same-off}
+use Rattle.global_data.specs.GlobalData.{portionsOf, entryBy}
 use Rattle.global_data.specs.WordLaws.{portions-lt}
 use Rattle.aggregates.specs.Answers.{refused, gives}
 use Rattle.aggregates.specs.Entries.{entryAt, standingAt, countsFor, dietsFit}
-use Rattle.aggregates.specs.Aggregates.{refusalOf, unless, total, totalOf}
+use Rattle.aggregates.specs.Aggregates.{refusalOf, unless, totalTo, totalOf}
 use Rattle.aggregates.specs.Refusals.{by-standing, by-diet, by-none, turned-away, unless-none}
 
 -- ---- the ends, of n from 1 to 16, marks below n and n entries
@@ -38,7 +38,7 @@ module _ (n marks : ℕ) (entries standing : List ℕ) (sized : oneTo 16 n ≡ t
 
   -- every other call is answered
   pub total-given : length standing ≡ n → dietsFit n (entryAt entries marks) ≡ true
-      → totalOf n entries marks standing ≡ gives (total n (standingAt standing) (entryAt entries marks))
+      → totalOf n entries marks standing ≡ gives (totalTo n (standingAt standing) (entryAt entries marks))
   unfolding totalOf
   total-given l d = unless-none _ _ (by-none n marks true _ entries sized marked refl long (same-mk _ _ l) d)
 
@@ -50,33 +50,33 @@ portionsAt entries i = portionsOf (getD entries i 0)
 
 -- what an entry adds, by its mark
 pub counts-is : (entries : List ℕ) (marks i s : ℕ)
-    → countsFor s (entryAt entries marks i) ≡ choose (has marks i) (portionsAt entries i) s
-unfolding entryAt choose
+    → countsFor s (entryAt entries marks i) ≡ select (has marks i) (portionsAt entries i) s
+unfolding entryAt select
 counts-is entries marks i s = go (has marks i)
   where
-    go : (b : Bool) → countsFor s (entry b (getD entries i 0)) ≡ choose b (portionsAt entries i) s
+    go : (b : Bool) → countsFor s (entryBy b (getD entries i 0)) ≡ select b (portionsAt entries i) s
     go true = refl
     go false = refl
 
 -- the portions of the present entries: 01's total, where an absent one was nought
 abbrev pub presentSum : ℕ → List ℕ → ℕ → ℕ
-presentSum n entries marks = sumTo n (λ i. choose (has marks i) (portionsAt entries i) 0)
+presentSum n entries marks = sumTo n (λ i. select (has marks i) (portionsAt entries i) 0)
 
 -- the sum of the standing values of the absent ones
 abbrev pub absentSum : ℕ → List ℕ → ℕ → ℕ
-absentSum n standing marks = sumTo n (λ i. choose (has marks i) 0 (standingAt standing i))
+absentSum n standing marks = sumTo n (λ i. select (has marks i) 0 (standingAt standing i))
 
-choose-split : (b : Bool) (x y : ℕ) → choose b x y ≡ choose b x 0 + choose b 0 y
-unfolding choose
-choose-split true x y = omega arith
-choose-split false x y = omega arith
+select-split : (b : Bool) (x y : ℕ) → select b x y ≡ select b x 0 + select b 0 y
+unfolding select
+select-split true x y = omega arith
+select-split false x y = omega arith
 
 module _ (n marks : ℕ) (entries standing : List ℕ) where
-  pub total-parts : total n (standingAt standing) (entryAt entries marks)
+  pub total-parts : totalTo n (standingAt standing) (entryAt entries marks)
       ≡ presentSum n entries marks + absentSum n standing marks
   total-parts =
-      ap (sumTo n) (fun-ext (λ i. counts-is entries marks i _ ∙ choose-split (has marks i) _ _))
-      ∙ sum-add n (λ i. choose (has marks i) (portionsAt entries i) 0) _
+      ap (sumTo n) (fun-ext (λ i. counts-is entries marks i _ ∙ select-split (has marks i) _ _))
+      ∙ sum-both n (λ i. select (has marks i) (portionsAt entries i) 0) _
 
   -- with standing values all 0 it is the sum of the present ones
   pub total-present : length standing ≡ n → ((i : ℕ) → i < n → standingAt standing i ≡ 0)
@@ -87,11 +87,11 @@ module _ (n marks : ℕ) (entries standing : List ℕ) where
       rw (same-mk _ _ l)
       (ap (λ v. unless (refusalOf n marks true true entries) (gives v)) (omega (arith, total-parts, none)))
     where
-      nought : (i : ℕ) → i < n → choose (has marks i) 0 (standingAt standing i) ≤ 0
-      nought i b = choose-by (λ x. x ≤ 0) (has marks i) _ _ (λ e. omega arith) (λ e. omega (arith, z i b))
+      nought : (i : ℕ) → i < n → select (has marks i) 0 (standingAt standing i) ≤ 0
+      nought i b = select-by (λ x. x ≤ 0) (has marks i) _ _ (λ e. omega arith) (λ e. omega (arith, z i b))
 
       none : absentSum n standing marks ≡ 0
-      none = omega (arith, sum-bound n 0 (λ i. choose (has marks i) 0 (standingAt standing i)) nought)
+      none = omega (arith, sum-bound n 0 (λ i. select (has marks i) 0 (standingAt standing i)) nought)
 
 -- ---- how great it can be
 
@@ -105,12 +105,12 @@ greatest-fits = omega arith
 module _ (n marks : ℕ) (entries standing : List ℕ) where
   -- of standing values of 32 bits none is greater, whatever the entries are
   pub total-most : n ≤ 16 → ((i : ℕ) → i < n → standingAt standing i < 2 ^ 32)
-      → total n (standingAt standing) (entryAt entries marks) ≤ greatest
+      → totalTo n (standingAt standing) (entryAt entries marks) ≤ greatest
   total-most few s =
       omega (arith, sum-bound n 4294967295 (λ i. countsFor (standingAt standing i) (entryAt entries marks i)) each)
     where
       each : (i : ℕ) → i < n → countsFor (standingAt standing i) (entryAt entries marks i) ≤ 4294967295
       each i l =
           rw (counts-is entries marks i (standingAt standing i))
-          (choose-by (λ x. x ≤ 4294967295) (has marks i) _ _ (λ e. omega (arith, portions-lt (getD entries i 0)))
+          (select-by (λ x. x ≤ 4294967295) (has marks i) _ _ (λ e. omega (arith, portions-lt (getD entries i 0)))
           (λ e. omega (arith, s i l)))

@@ -18,9 +18,9 @@ given-lead : (a b : Lead) → gives a ≡ gives b → a ≡ b
 given-lead a b e = cc
 
 pub total-whole : (a b : TotalAnswer) → totalMeans a ≡ totalMeans b → a ≡ b
-total-whole (total.Sum v) (total.Sum w) e = cc
-total-whole (total.Sum v) (total.Refused r) e = cc
-total-whole (total.Refused r) (total.Sum v) e = cc
+total-whole (total.Total v) (total.Total w) e = cc
+total-whole (total.Total v) (total.Refused r) e = cc
+total-whole (total.Refused r) (total.Total v) e = cc
 total-whole (total.Refused r) (total.Refused s) e = ap total.Refused (same-refusal r s e)
 
 pub go-whole : (a b : GoAnswer) → goMeans a ≡ goMeans b → a ≡ b

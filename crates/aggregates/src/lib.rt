@@ -10,7 +10,7 @@ ghost use mathlib.Core.Path.{_≡_};
 ghost use Prim.Native.Nat.{_<_, _≤_};
 ghost use lib.ListN.{length};
 ghost use lib.IntN.{pos, _-ℤ_};
-ghost use Rattle.aggregates.specs.Aggregates.{refusalOf, total, go, led, changed};
+ghost use Rattle.aggregates.specs.Aggregates.{refusalOf, totalTo, go, led, changed};
 ghost use Rattle.aggregates.specs.Aggregates.{totalOf, goOf, leadOf, changeOf};
 ghost use Rattle.aggregates.specs.Answers.{totalMeans, goMeans, leadMeans, changeMeans};
 ghost use Rattle.aggregates.specs.Entries.{entryAt, standingAt, countsFor, served, dietsFit};
@@ -23,7 +23,7 @@ pub struct Refusal {
 }
 
 pub enum TotalAnswer {
-    Sum(u64),
+    Total(u64),
     Refused(Refusal),
 }
 
@@ -120,7 +120,7 @@ fn counts_for(standing: &[u32], i: usize, entry: Entry) -> u32
 
 fn sum(entries: &[u32], marks: u16, standing: &[u32]) -> u64
     requires { ⌜ (length (now entries) ≤ 16) × (length (now standing) ≡ length (now entries)) ⌝ }
-    ensures { λ r. ⌜ r ≡ total (length (now (entries .entry))) (standingAt (now (standing .entry)))
+    ensures { λ r. ⌜ r ≡ totalTo (length (now (entries .entry))) (standingAt (now (standing .entry)))
         (entryAt (now (entries .entry)) marks) ⌝ }
 {
     let mut sum: u64 = 0;
@@ -247,7 +247,7 @@ pub fn total(n: u8, entries: &[u32], marks: u16, standing: &[u32]) -> TotalAnswe
     if number != 0 {
         return TotalAnswer::Refused(Refusal { number });
     }
-    TotalAnswer::Sum(sum(entries, marks, standing))
+    TotalAnswer::Total(sum(entries, marks, standing))
 }
 
 // Whether no entry is absent and each has at least 1 portion.

@@ -9,4 +9,4 @@ pub mod GlobalDataCall
 pub mod Contracts
 pub mod PlainStarts
 pub mod RewrittenCalls
-pub mod AcrossCarrying
+pub mod CarryingCase

@@ -7,8 +7,8 @@ use Prim.Native.Nat.{ℕ, suc, _-_, _/_, _≤_, _<_}
 use native.Mathlib.Omega.{arith}
 use lib.ListN.{length, drop}
 use Rattle.sets.specs.Lists.{each}
-use Rattle.sets.specs.Truth.{same, below, choose, oneTo, check}
-use Rattle.sets.specs.TruthLaws.{choose-on, choose-off, same-mk, same-off, below-mk, below-off, check-on, check-off}
+use Rattle.sets.specs.Truth.{same, less, select, oneTo, check}
+use Rattle.sets.specs.TruthLaws.{select-on, select-off, same-mk, same-off, less-mk, less-off, check-on, check-off}
 use Rattle.process.specs.Steps.{hasDecided}
 use Rattle.bench.specs.declared.Bench.{Bench}
 use Rattle.bench.specs.declared.Shown.the-variants.{Marks, Refused as RefusedShow}
@@ -19,19 +19,19 @@ use Rattle.bench.specs.Calls.{refused, wordAt, showRefusal, showOf, show
 use Rattle.bench.specs.TransitList.{transitBytes, listRefusal, listOf, listedIn}
 
 -- a slice of length x is long enough for y, or too short
-long : (x y : ℕ) → y ≤ x → not (below x y) ≡ true
-long x y h = ap not (below-off x y h)
+long : (x y : ℕ) → y ≤ x → not (less x y) ≡ true
+long x y h = ap not (less-off x y h)
 
-short : (x y : ℕ) → x < y → not (below x y) ≡ false
-short x y h = ap not (below-mk x y h)
+short : (x y : ℕ) → x < y → not (less x y) ≡ false
+short x y h = ap not (less-mk x y h)
 
 -- ---- by the number: 0 is the answer itself
 module _ {A : Type 0} (r : ℕ) (x : A) (f : ℕ → A) where
-  by-none : r ≡ 0 → choose (same r 0) x (f r) ≡ x
-  by-none e = choose-on (same r 0) x (f r) (same-mk r 0 e)
+  by-none : r ≡ 0 → select (same r 0) x (f r) ≡ x
+  by-none e = select-on (same r 0) x (f r) (same-mk r 0 e)
 
-  by-number : (k : ℕ) → r ≡ suc k → choose (same r 0) x (f r) ≡ f (suc k)
-  by-number k e = choose-off (same r 0) x (f r) (same-off r 0 (λ z. omega arith)) ∙ ap f e
+  by-number : (k : ℕ) → r ≡ suc k → select (same r 0) x (f r) ≡ f (suc k)
+  by-number k e = select-off (same r 0) x (f r) (same-off r 0 (λ z. omega arith)) ∙ ap f e
 
 -- ---- global data of process x
 module _ (s : Bench) (x : ℕ) (out : List ℕ) where

@@ -7,29 +7,26 @@ use Prim.Native.Nat.{ℕ, zero, suc, _/_}
 use lib.ListN.{getD, length, take, drop}
 use Rattle.sets.specs.Lists.{every, everyIn}
 use Rattle.sets.specs.Set.{has}
-use Rattle.sets.specs.Truth.{_&&_, same, below, choose, check}
+use Rattle.sets.specs.Truth.{_and_, same, less, select, check}
 use Rattle.global_data.specs.declared.GlobalData.{GlobalData}
 use Rattle.process.specs.declared.Process.{Process}
 use Rattle.bench.specs.declared.Bench.{Bench}
 use Rattle.bench.specs.declared.Carried.{Carried}
 use Rattle.bench.specs.declared.Event.{Event}
-use Rattle.bench.specs.declared.Event.the-variants.{Start, Send, Arrive, Close, Crash, Suspect}
 use Rattle.bench.specs.Sound.{soundOf}
-use Rattle.bench.specs.Record.{usesValue, valueOf}
+use Rattle.bench.specs.Record.{isKind, byKind}
 use Rattle.bench.specs.Calls.{answerOf}
-use Rattle.bench.specs.OneByOne.{recordAt}
-use Rattle.bench.specs.OldRules.{Form, now}
 
 -- no present entry is above 65,535; a word under an absent one does not count
 unfoldable pub plainData : GlobalData → Bool
-plainData g = every 16 (λ k. choose (has (g .present) k) (below (getD (g .values) k 0) 65536) true)
+plainData g = every 16 (λ k. select (has (g .present) k) (less (getD (g .values) k 0) 65536) true)
 
 unfoldable pub plainProcess : Process → Bool
 plainProcess p = plainData (p .estimate)
 
 -- in every estimate and every row of what was sent, used or not
 unfoldable pub plainBench : Bench → Bool
-plainBench s = everyIn plainProcess (s .processes) && everyIn plainData (s .sent)
+plainBench s = everyIn plainProcess (s .processes) and everyIn plainData (s .sent)
 
 -- 2, 16, or 0
 unfoldable pub carryRefusal : Bench → ℕ
@@ -38,29 +35,13 @@ carryRefusal s = check (soundOf s) 2 (check (plainBench s) 16 0)
 unfoldable pub carryOf : Bench → Carried
 carryOf s = record { answer = answerOf (carryRefusal s); bench = s }
 
--- the form of a bench that was to be carried: the new one, if it was not refused
-unfoldable pub carriedForm : Form → Bench → Form
-carriedForm f s = choose (same (carryRefusal s) 0) now f
-
 -- a start with a value of at most 65,535, or another event
 unfoldable pub plainStart : Event → Bool
-plainStart (Start a v) = below v 65536
-plainStart (Send a b) = true
-plainStart (Arrive a b m) = true
-plainStart (Close a) = true
-plainStart (Crash a) = true
-plainStart (Suspect a b) = true
+plainStart e = byKind (λ a v. less v 65536) (λ a. true) true true e
 
--- ---- records: those of a start with a value of at most 65,535, or of another kind
-unfoldable pub isStart : List ℕ → Bool
-isStart bytes = same (length bytes) 8 && usesValue (getD bytes 0 0)
-
-unfoldable pub plainRecord : List ℕ → Bool
-plainRecord bytes = choose (isStart bytes) (below (valueOf bytes) 65536) true
-
--- a start rewritten with diet portions 0: its last two bytes
+-- ---- records: a start rewritten with diet portions 0, its last two bytes
 unfoldable pub rewrittenRecord : List ℕ → List ℕ
-rewrittenRecord bytes = choose (isStart bytes) (take 6 bytes ++ (0 ∷ 0 ∷ [])) bytes
+rewrittenRecord bytes = select (isKind 1 bytes) (take 6 bytes ++ (0 ∷ 0 ∷ [])) bytes
 
 -- of the first k records in a schedule, and of all that are whole
 unfoldable pub rewrittenTo : ℕ → List ℕ → List ℕ
@@ -69,6 +50,3 @@ rewrittenTo (suc k) l = rewrittenRecord (take 8 l) ++ rewrittenTo k (drop 8 l)
 
 unfoldable pub rewrittenSchedule : List ℕ → List ℕ
 rewrittenSchedule l = rewrittenTo (length l / 8) l
-
-unfoldable pub plainSchedule : List ℕ → Bool
-plainSchedule l = every (length l / 8) (λ i. plainRecord (recordAt i l))

@@ -10,14 +10,15 @@ use lib.ListN.{getD}
 use Rattle.sets.specs.EveryLaws as every
 use Rattle.sets.specs.Laws.{has-empty}
 use Rattle.sets.specs.Set.{has}
-use Rattle.sets.specs.Truth.{same, below, choose}
-use Rattle.sets.specs.TruthLaws.{Is, on, off, is, clash, choose-on, choose-off, check-on, check-off}
-use Rattle.sets.specs.TruthLaws.{below-on, below-mk, and-l, and-r, and-mk}
+use Rattle.sets.specs.Truth.{same, less, select}
+use Rattle.sets.specs.TruthLaws.{Is, on, off, is, clash, select-on, select-off, check-on, check-off, check-zero}
+use Rattle.sets.specs.TruthLaws.{less-on, less-mk, and-first, and-second, and-mk}
 use Rattle.global_data.specs.declared.GlobalData.{GlobalData}
+use Rattle.global_data.specs.declared.Entry.{Entry}
 use Rattle.global_data.specs.declared.Entry.the-variants.{Absent, Value}
 use Rattle.global_data.specs.GlobalData.{portionsOf, dietOf, valueIn, entryOf, nothingOf, oneOf, fillOf, noData}
 use Rattle.global_data.specs.Laws.{entry-present, entry-absent, not-both, value-present, absent-or, entry-nothing}
-use Rattle.global_data.specs.Laws.{entry-one, orElse-absent, orElse-value, entry-fill, fillFrom-ind}
+use Rattle.global_data.specs.Laws.{entry-one, orEntry-absent, orEntry-value, entry-fill, fillFrom-ind}
 use Rattle.global_data.specs.WordLaws.{plain-word, value-word}
 use Rattle.process.specs.declared.Process.{Process}
 use Rattle.process.specs.Steps.{noProcess, idleOf, hasDecided, takesPart, keeps, peersOf, filledOf, decidesOf}
@@ -34,7 +35,7 @@ use Rattle.bench.specs.SoundLaws.{every-on, every-mk, each-set, each-rep
 use Rattle.bench.specs.RecordLaws.{inRange}
 use Rattle.bench.specs.Effect.{opensRound, rowsAt, sends, arrives, closesAs, effect}
 use Rattle.bench.specs.OldRules.{OldEntry, absent, number, oldEntryOf}
-use Rattle.bench.specs.Carry.{plainData, plainProcess, plainBench, carryRefusal, plainStart}
+use Rattle.bench.specs.Carry.{plainData, plainProcess, plainBench, carryRefusal, carryOf, plainStart}
 
 -- ---- 2, 16, or 0
 module _ (s : Bench) where
@@ -59,16 +60,16 @@ unfolding plainData
 plain-on g e k v h f =
     let p = value-present g k (portionsOf v) (dietOf v) f in
     let w = value-word _ v (sym (entry-present g k p) ∙ f) in
-    rw w at (below-on _ 65536 (sym (choose-on _ _ _ p) ∙ every.every-on 16 _ e k h))
+    rw w at (less-on _ 65536 (sym (select-on _ _ _ p) ∙ every.every-on 16 _ e k h))
 
 pub plain-mk : (g : GlobalData) → Plain g → plainData g ≡ true
 unfolding plainData
 plain-mk g p = every.every-mk 16 _ (λ k h. go k h (is (has (g .present) k)))
   where
     go : (k : ℕ) → k < 16 → Is (has (g .present) k)
-        → choose (has (g .present) k) (below (getD (g .values) k 0) 65536) true ≡ true
-    go k h (on e) = choose-on _ _ _ e ∙ below-mk _ 65536 (p k _ h (entry-present g k e))
-    go k h (off e) = choose-off _ _ _ e
+        → select (has (g .present) k) (less (getD (g .values) k 0) 65536) true ≡ true
+    go k h (on e) = select-on _ _ _ e ∙ less-mk _ 65536 (p k _ h (entry-present g k e))
+    go k h (off e) = select-off _ _ _ e
 
 plain-none : (g : GlobalData) → ((k : ℕ) → entryOf g k ≡ Absent) → Plain g
 plain-none g a k v h f = absurd (not-both (entryOf g k) (portionsOf v) (dietOf v) (a k) f)
@@ -84,16 +85,16 @@ plain-one a v l h k w r f = go (is (same k a))
   where
     go : Is (same k a) → w < 65536
     go (on e) =
-        let q = value-word v w (sym (choose-on _ _ _ e) ∙ sym (entry-one a v k l) ∙ f) in
+        let q = value-word v w (sym (select-on _ _ _ e) ∙ sym (entry-one a v k l) ∙ f) in
         omega (arith, q)
     go (off e) =
-        absurd (not-both (entryOf (oneOf a v) k) (portionsOf w) (dietOf w) (entry-one a v k l ∙ choose-off _ _ _ e) f)
+        absurd (not-both (entryOf (oneOf a v) k) (portionsOf w) (dietOf w) (entry-one a v k l ∙ select-off _ _ _ e) f)
 
 plain-fill : (g row : GlobalData) → Plain g → Plain row → Plain (fillOf g row)
 plain-fill g row p q k v h f =
-    ⊎-elim (λ a. q k v h (sym (orElse-absent _ _ a) ∙ sym (entry-fill g row k h) ∙ f))
+    ⊎-elim (λ a. q k v h (sym (orEntry-absent _ _ a) ∙ sym (entry-fill g row k h) ∙ f))
     (λ (w, a).
-    let e : valueIn w ≡ valueIn v = sym (orElse-value _ (entryOf row k) w a) ∙ sym (entry-fill g row k h) ∙ f in
+    let e : valueIn w ≡ valueIn v = sym (orEntry-value _ (entryOf row k) w a) ∙ sym (entry-fill g row k h) ∙ f in
     p k v h (a ∙ e))
     (absent-or g k)
 
@@ -115,8 +116,8 @@ module _ (p : Process) where
       go (on e) = rw (close-on n t a rows p e) (plain-filled a rows p h r)
       go (off e) = rw (close-off n t a rows p e) (plain-filled a rows p h r)
 
-  plain-either : (b : Bool) (q : Process) → Plain (q .estimate) → Plain (p .estimate) → Plain (choose b q p .estimate)
-  unfolding choose
+  plain-either : (b : Bool) (q : Process) → Plain (q .estimate) → Plain (p .estimate) → Plain (select b q p .estimate)
+  unfolding select
   plain-either true q w h = w
   plain-either false q w h = h
 
@@ -139,8 +140,9 @@ bench-on s e =
     record {
       estimate =
           λ a. plain-on _
-          (every-on plainProcess noProcess (s .processes) (plain-mk noData plain-outside) (and-l _ _ e) a);
-      sent = λ i. plain-on _ (every-on plainData noData (s .sent) (plain-mk noData plain-outside) (and-r _ _ e) i);
+          (every-on plainProcess noProcess (s .processes) (plain-mk noData plain-outside) (and-first _ _ e) a);
+      sent = λ i. plain-on _ (every-on plainData noData (s .sent) (plain-mk noData plain-outside)
+          (and-second _ _ e) i);
     }
 
 pub bench-mk : (s : Bench) → PlainBench s → plainBench s ≡ true
@@ -192,10 +194,10 @@ unfolding opensRound
 plain-opens s b a p h = with-sent _ (with-process s b a p h) a (p .round) (p .estimate) h
 
 plain-closes : (s : Bench) → PlainBench s → (a : ℕ) (p : Process) → Plain (p .estimate) → PlainBench (closesAs s a p)
-unfolding closesAs choose
+unfolding closesAs select
 plain-closes s b a p h = go (hasDecided p)
   where
-    go : (d : Bool) → PlainBench (choose d (withProcess s a p) (opensRound s a p))
+    go : (d : Bool) → PlainBench (select d (withProcess s a p) (opensRound s a p))
     go true = with-process s b a p h
     go false = plain-opens s b a p h
 
@@ -203,7 +205,7 @@ plain-closes s b a p h = go (hasDecided p)
 pub plain-effect : (s : Bench) → s .n ≤ 16 → PlainBench s → (e : Event) → inRange (s .n) (s .t) e → plainStart e ≡ true
     → PlainBench (effect e s)
 unfolding effect inRange plainStart startOf openRoundOf sendOf suspectOf sends arrives
-plain-effect s l b (Start a v) r f = plain-opens s b a _ (plain-one a v (omega arith) (below-on v 65536 f))
+plain-effect s l b (Start a v) r f = plain-opens s b a _ (plain-one a v (omega arith) (less-on v 65536 f))
 plain-effect s l b (Send a y) r f = with-transit _ (with-process s b a _ (plain-at s b a)) a _ _
 plain-effect s l b (Arrive a y (Estimate q)) r f =
     with-transit _ (with-process s b y _ (plain-receive _ a q (plain-at s b y))) a q _
@@ -230,7 +232,40 @@ carried-entry g p k v h f = go (is (has (g .present) k))
   where
     go : Is (has (g .present) k) → entryOf g k ≡ Value v 0
     go (on e) =
-        let q : getD (g .values) k 0 ≡ v = ap numberOf (sym (choose-on _ _ _ e) ∙ f) in
+        let q : getD (g .values) k 0 ≡ v = ap numberOf (sym (select-on _ _ _ e) ∙ f) in
         let w = plain-word v (plain-on g p k v h (entry-present g k e ∙ ap valueIn q)) in
         entry-present g k e ∙ ap valueIn q ∙ ap₂ Value (w .0) (w .1)
-    go (off e) = clash (isNumber absent) (ap isNumber (sym (choose-off _ _ _ e) ∙ f)) refl
+    go (off e) = clash (isNumber absent) (ap isNumber (sym (select-off _ _ _ e) ∙ f)) refl
+
+-- what an entry of before becomes
+unfoldable pub carriedEntry : OldEntry → Entry
+carriedEntry absent = Absent
+carriedEntry (number v) = Value v 0
+
+carried-as : (g : GlobalData) → plainData g ≡ true → (k : ℕ) → k < 16 → entryOf g k ≡ carriedEntry (oldEntryOf g k)
+unfolding carriedEntry oldEntryOf
+carried-as g p k h = go (is (has (g .present) k))
+  where
+    go : Is (has (g .present) k)
+        → entryOf g k ≡ carriedEntry (select (has (g .present) k) (number (getD (g .values) k 0)) absent)
+    go (on e) = carried-entry g p k _ h (select-on _ _ _ e) ∙ ap carriedEntry (sym (select-on _ _ _ e))
+    go (off e) = entry-absent g k e ∙ ap carriedEntry (sym (select-off _ _ _ e))
+
+-- ---- an accepted carrying: every entry of every estimate and of every row of the bench that it gives is absent as
+-- before, or has the number of before as portions and no diet portions
+pub record CarriedAs (s s′ : Bench) : Type 0 where
+  pub estimate : (a k : ℕ) → k < 16
+      → entryOf (getD (s′ .processes) a noProcess .estimate) k
+      ≡ carriedEntry (oldEntryOf (getD (s .processes) a noProcess .estimate) k)
+  pub sent : (i k : ℕ) → k < 16
+      → entryOf (getD (s′ .sent) i noData) k ≡ carriedEntry (oldEntryOf (getD (s .sent) i noData) k)
+
+pub carried-bench : (s : Bench) → carryRefusal s ≡ 0 → CarriedAs s (carryOf s .bench)
+unfolding carryRefusal carryOf
+carried-bench s z =
+    let c = check-zero (soundOf s) 2 _ (omega arith) z in
+    let B = bench-on s (check-zero (plainBench s) 16 0 (omega arith) (c .1) .0) in
+    record {
+      estimate = λ a. carried-as _ (plain-mk _ (B .estimate a));
+      sent = λ i. carried-as _ (plain-mk _ (B .sent i));
+    }

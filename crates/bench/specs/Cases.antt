@@ -7,7 +7,7 @@ use Prim.Native.Nat.{ℕ, zero, suc, _+_, _*_, _/_, _%_}
 use lib.Count.{ones}
 use Rattle.sets.specs.Lists.{each, every, everyIn}
 use Rattle.sets.specs.Set.{has, insertOf, removeOf, unionOf, intersectionOf, differenceOf, allOf, sizeOf, within}
-use Rattle.sets.specs.Truth.{_&&_, _||_, same, below, choose, oneTo, check}
+use Rattle.sets.specs.Truth.{_and_, _or_, same, less, select, oneTo, check}
 use Rattle.global_data.specs.declared.Entry.{Entry}
 use Rattle.global_data.specs.declared.Entry.the-variants.{Absent, Value}
 use Rattle.global_data.specs.GlobalData.{portionsOf, dietOf, entryOf, sameEntry, dietFits, nothingOf, oneOf}
@@ -24,16 +24,14 @@ use Rattle.bench.specs.declared.Event.the-variants.{Start as StartOf}
 use Rattle.bench.specs.State.{processAt, sentAt, transitAt, crashedAt, withProcess}
 use Rattle.bench.specs.State.{withSent, withTransit, withCrashed, openedOf}
 use Rattle.bench.specs.Sound.{opens, soundData, soundProcess, soundOf}
-use Rattle.bench.specs.Record.{wordOf, usesB, usesR, usesValue, fieldB, fieldR}
-use Rattle.bench.specs.Record.{fieldValue, fields, messageFrom, eventOf, partsOf}
-use Rattle.bench.specs.Record.{valueOf, readOf, startFits, checkDiet, decodeOf}
+use Rattle.bench.specs.Record.{wordOf, usesB}
+use Rattle.bench.specs.Record.{fields, messageFrom, eventOf, partsOf}
+use Rattle.bench.specs.Record.{valueOf, readOf, startFits, checkDiet, decodeOf, Form, v1, v2, decodeAs}
 use Rattle.bench.specs.Refuse.{numberOf, actor, isCrash, passes7, passes8}
-use Rattle.bench.specs.Refuse.{passes9, refuses, refusesDecoded, refusal}
-use Rattle.bench.specs.Effect.{opensRound, rowsAt, sends, arrives, closesAs, effect, effectDecoded, effectOf}
-use Rattle.bench.specs.Closings.{closingAt, closingDecoded, closingIn, isNone}
-use Rattle.bench.specs.Calls.{Rules, rules, afterBy, afterRecord}
-use Rattle.bench.specs.OldRules.{oldEntryOf, oldSameEntry, oldSameTo, oldAgreed, oldClosingOf, oldCloseOf}
-use Rattle.bench.specs.OldRules.{oldEffect, oldClosingAt, oldRefusal, oldRules}
+use Rattle.bench.specs.Refuse.{passes9, refuses, refusesDecoded, refusalBy}
+use Rattle.bench.specs.Effect.{opensRound, rowsAt, sends, arrives, closesAs, effect}
+use Rattle.bench.specs.Closings.{closingAt, isNone, lastOf}
+use Rattle.bench.specs.Calls.{eventIn, acceptedOne, afterEvents, closingFrom, stepBy, stepOf}
 use Rattle.bench.specs.Carry.{plainData, plainProcess, plainBench, carryRefusal}
 
 -- a record's bytes: kind, a, b, r, and no value
@@ -96,20 +94,21 @@ pub record Case : Type 0 where
   pub lines : List Line
 
 -- the answers, and the bench at the end, by the rules of now or those before request C-15
-answersOf : Rules → Bench → List (List ℕ) → List ℕ
-answersOf R s [] = []
-answersOf R s (r ∷ rs) = R .refuses s r ∷ answersOf R (afterBy R s r) rs
+answersOf : Form → Bench → List (List ℕ) → List ℕ
+answersOf f s [] = []
+answersOf f s (r ∷ rs) = refusalBy f s r ∷ answersOf f (stepBy f s r .bench) rs
 
 -- the closings that are not none, the first record being number k
 closingsOf : ℕ → Bench → List (List ℕ) → List Closes
 closingsOf k s [] = []
 closingsOf k s (r ∷ rs) =
-    let rest = closingsOf (suc k) (afterRecord s r) rs in
-    choose (isNone (closingIn s r)) rest (at k (closingIn s r) ∷ rest)
+    let e = stepOf s r in
+    let rest = closingsOf (suc k) (e .bench) rs in
+    select (isNone (e .closing)) rest (at k (e .closing) ∷ rest)
 
-endOf : Rules → Bench → List (List ℕ) → Bench
-endOf R s [] = s
-endOf R s (r ∷ rs) = endOf R (afterBy R s r) rs
+endOf : Form → Bench → List (List ℕ) → Bench
+endOf f s [] = s
+endOf f s (r ∷ rs) = endOf f (stepBy f s r .bench) rs
 
 sameBool : Bool → Bool → Bool
 sameBool true b = b
@@ -120,7 +119,7 @@ sameList : List ℕ → List ℕ → Bool
 sameList [] [] = true
 sameList [] (y ∷ m) = false
 sameList (x ∷ l) [] = false
-sameList (x ∷ l) (y ∷ m) = same x y && sameList l m
+sameList (x ∷ l) (y ∷ m) = same x y and sameList l m
 
 sameClosings : List Closes → List Closes → Bool
 sameClosings [] [] = true
@@ -128,30 +127,30 @@ sameClosings [] (y ∷ m) = false
 sameClosings (x ∷ l) [] = false
 sameClosings (x ∷ l) (y ∷ m) =
     same (x .record-number) (y .record-number)
-    && (same (closingNumber (x .closing)) (closingNumber (y .closing)) && sameClosings l m)
+    and (same (closingNumber (x .closing)) (closingNumber (y .closing)) and sameClosings l m)
 
 sameEntries : ℕ → Process → List Entry → Bool
 sameEntries k p [] = true
-sameEntries k p (e ∷ l) = sameEntry (entryOf (p .estimate) k) e && sameEntries (suc k) p l
+sameEntries k p (e ∷ l) = sameEntry (entryOf (p .estimate) k) e and sameEntries (suc k) p l
 
-pred : ℕ → ℕ
-pred zero = zero
-pred (suc k) = k
+oneLess : ℕ → ℕ
+oneLess zero = zero
+oneLess (suc k) = k
 
 sameLine : Bench → Line → Bool
 sameLine s l =
-    let p = processAt s (pred (l .process)) in
+    let p = processAt s (oneLess (l .process)) in
     same (p .round) (l .round)
-    && (sameBool (crashedAt s (pred (l .process))) (l .crashed)
-    && (sameBool (hasDecided p) (l .decided) && (same (p .current) (l .current) && sameEntries 0 p (l .entries))))
+    and (sameBool (crashedAt s (oneLess (l .process))) (l .crashed)
+    and (sameBool (hasDecided p) (l .decided) and (same (p .current) (l .current) and sameEntries 0 p (l .entries))))
 
 -- from a bench s
 pub passesFrom : Bench → Case → Bool
 passesFrom s c =
-    same (choose (opens (c .n) (c .t)) 0 1) (c .opening)
-    && (sameList (answersOf rules s (c .records)) (c .answers)
-    && (sameClosings (closingsOf 1 s (c .records)) (c .closings)
-    && everyIn (sameLine (endOf rules s (c .records))) (c .lines)))
+    same (select (opens (c .n) (c .t)) 0 1) (c .opening)
+    and (sameList (answersOf v2 s (c .records)) (c .answers)
+    and (sameClosings (closingsOf 1 s (c .records)) (c .closings)
+    and everyIn (sameLine (endOf v2 s (c .records))) (c .lines)))
 
 pub passes : Case → Bool
 passes c = passesFrom (openedOf (c .n) (c .t)) c
@@ -368,12 +367,12 @@ pub record Week : Type 0 where
 pub weekPasses : Week → Bool
 weekPasses w =
     let s = openedOf (w .n) (w .t) in
-    let c = endOf oldRules s (w .old) in
-    let e = endOf rules c (w .new) in
-    sameList (answersOf oldRules s (w .old)) (w .old-answers)
-    && (same (carryRefusal c) (w .carried)
-    && (sameList (answersOf rules c (w .new)) (w .new-answers)
-    && (same (carryRefusal e) (w .again) && everyIn (sameLine e) (w .lines))))
+    let c = endOf v1 s (w .old) in
+    let e = endOf v2 c (w .new) in
+    sameList (answersOf v1 s (w .old)) (w .old-answers)
+    and (same (carryRefusal c) (w .carried)
+    and (sameList (answersOf v2 c (w .new)) (w .new-answers)
+    and (same (carryRefusal e) (w .again) and everyIn (sameLine e) (w .lines))))
 
 -- case 4 with a larger value, carried after its fifth record: a message is on its way, and none is lost
 carriedOver : Week
@@ -432,24 +431,24 @@ pub statesPass : Bool
 statesPass =
     let s = openedOf 2 1 in
     same (carryRefusal (withCrashed (withSent s 0 1 (oneOf 0 65536)) 5)) 2
-    && (same (carryRefusal (withSent s 1 9 (oneOf 0 65536))) 16
-    && same (carryRefusal (withSent s 0 1 (record { present = 2; values = 65536 ∷ 65535 ∷ 65536 ∷ [] }))) 0)
+    and (same (carryRefusal (withSent s 1 9 (oneOf 0 65536))) 16
+    and same (carryRefusal (withSent s 0 1 (record { present = 2; values = 65536 ∷ 65535 ∷ 65536 ∷ [] }))) 0)
 
 -- every case passes: the checker computes it from the definitions
-pub cases : (everyIn passes table && (passesFrom held heldCase && (everyIn weekPasses weeks && statesPass))) ≡ true
+pub cases-hold : (everyIn passes table and (passesFrom held heldCase and (everyIn weekPasses weeks and statesPass)))
+    ≡ true
 unfolding bytes startWith start send arrive close crash suspect answersOf closingsOf endOf sameBool sameList
-    sameClosings sameEntries pred sameLine passesFrom passes
+    sameClosings sameEntries oneLess sameLine passesFrom passes
     round3 noRefusal allThree case1 case2 case3 case4and6 sizes case7 case8 case9 case10 values tooMuch held heldCase
     table weekPasses carriedOver tooLarge unheld weeks statesPass
-    has insertOf removeOf unionOf intersectionOf differenceOf allOf sizeOf ones _&&_ _||_ same below choose
+    has insertOf removeOf unionOf intersectionOf differenceOf allOf sizeOf ones _and_ _or_ same less select
     portionsOf dietOf entryOf sameEntry dietFits each every nothingOf oneOf filledWord fillOf fillFrom sameTo allSame
     idleOf hasDecided takesPart openRoundOf startOf keeps receiveOf arrivedOf dueOf nextOf peersOf filledOf agreedOf
     closingOf closingNumber opensNext decidesOf owedOf decideOf advanceOf closeOf adoptOf messageOf sendOf suspectOf
     processAt sentAt transitAt crashedAt withProcess withSent withTransit withCrashed openedOf opens everyIn within
     soundData soundProcess soundOf
-    wordOf oneTo usesB usesR usesValue fieldB fieldR fieldValue fields messageFrom eventOf partsOf valueOf readOf
-    startFits checkDiet decodeOf check numberOf actor isCrash passes7 passes8 passes9 refuses refusesDecoded refusal
-    opensRound rowsAt sends arrives closesAs effect effectDecoded effectOf afterRecord
-    closingAt closingDecoded closingIn isNone oldEntryOf oldSameEntry oldSameTo oldAgreed oldClosingOf oldCloseOf
-    oldEffect oldClosingAt oldRefusal plainData plainProcess plainBench carryRefusal
-cases = refl
+    wordOf oneTo usesB fields messageFrom eventOf partsOf valueOf readOf
+    startFits checkDiet decodeOf check numberOf actor isCrash passes7 passes8 passes9 refuses refusesDecoded
+    opensRound rowsAt sends arrives closesAs effect closingAt isNone lastOf decodeAs refusalBy
+    eventIn acceptedOne afterEvents closingFrom stepOf plainData plainProcess plainBench carryRefusal
+cases-hold = refl

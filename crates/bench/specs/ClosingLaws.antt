@@ -9,9 +9,9 @@ use Prim.Native.Nat.{ℕ, zero, suc, _+_, _<_}
 use native.Mathlib.Omega.{arith}
 use lib.ListN.{length, getD, take, drop}
 use lib.Seq.{getD-set-same}
-use Rattle.sets.specs.Truth.{_&&_, same, choose}
-use Rattle.sets.specs.TruthLaws.{Is, on, off, is, choose-on, choose-off, same-on, same-not, same-mk, same-off}
-use Rattle.sets.specs.TruthLaws.{and-l, and-r, and-on-l, and-off-l, not-on}
+use Rattle.sets.specs.Truth.{_and_, same, select}
+use Rattle.sets.specs.TruthLaws.{Is, on, off, is, select-on, select-off, same-on, same-not, same-mk, same-off}
+use Rattle.sets.specs.TruthLaws.{and-first, and-second, and-on-l, and-off-l, not-on}
 use Rattle.global_data.specs.declared.GlobalData.{GlobalData}
 use Rattle.process.specs.declared.Process.{Process}
 use Rattle.process.specs.declared.Closing.{Closing}
@@ -25,21 +25,25 @@ use Rattle.bench.specs.declared.Event.the-variants.{Start, Send, Arrive,
 use Rattle.bench.specs.declared.Decoded.{Decoded}
 use Rattle.bench.specs.declared.Decoded.the-variants.{Got, Refused}
 use Rattle.bench.specs.State.{processAt, withProcess, withSent}
-use Rattle.bench.specs.Record.{messageFrom, eventOf, decodeOf}
+use Rattle.bench.specs.Record.{messageFrom, eventOf, decodeOf, decodeAs}
 use Rattle.bench.specs.RecordLaws.{inRange, decode-from, decode-range}
 use Rattle.bench.specs.Sound.{soundOf}
 use Rattle.bench.specs.SoundLaws.{sound-on}
 use Rattle.bench.specs.Refuse.{passes7, refusal}
 use Rattle.bench.specs.RefuseLaws.{accepted, accepted-effect}
-use Rattle.bench.specs.Effect.{rowsAt, opensRound, closesAs, effect, effectDecoded, effectOf}
-use Rattle.bench.specs.Closings.{closingAt, closingDecoded, closingIn, isNone, lastOf}
-use Rattle.bench.specs.Calls.{afterRecord, endedOf, runOf}
-use Rattle.bench.specs.OneByOne.{restOf, recordAt, steps}
+use Rattle.bench.specs.Effect.{rowsAt, opensRound, closesAs, effect}
+use Rattle.bench.specs.RunLoop.{effectDecoded, effectBy, effectOf}
+use Rattle.bench.specs.Closings.{closingAt, isNone, lastOf}
+use Rattle.bench.specs.RunLoop.{closingDecoded, endsBy, closingIn}
+use Rattle.bench.specs.Calls.{runOf, afterRecord}
+use Rattle.bench.specs.RunLoop.{endedOf}
+use Rattle.bench.specs.LastLaws.{none-is, last-close, last-none}
+use Rattle.bench.specs.OneByOne.{restAt, recordAt, steps}
 use Rattle.bench.specs.RunLaws.{rest-next, closingTo, run-sound, runs}
 
 -- ---- one record. A close always has one; of the events by their kinds, a close alone
 pub close-some : (n t a : ℕ) (rows : ℕ → GlobalData) (p : Process) → isNone (closingOf n t a rows p) ≡ false
-unfolding isNone closingOf closingNumber same choose
+unfolding isNone closingOf closingNumber same select
 close-some n t a rows p = go (is (same (p .round) (t + 1))) (is (agreedOf n a rows p))
   where
     go : Is (same (p .round) (t + 1)) → Is (agreedOf n a rows p) → isNone (closingOf n t a rows p) ≡ false
@@ -48,18 +52,18 @@ close-some n t a rows p = go (is (same (p .round) (t + 1))) (is (agreedOf n a ro
     go (off e) (off f) = rw (e, f)
 
 by-close : (s : Bench) (a b r v : ℕ) → isNone (closingAt (eventOf 4 a b r v) s) ≡ not (same 4 4)
-unfolding closingAt eventOf same choose
+unfolding closingAt eventOf same select
 by-close s a b r v = close-some _ _ _ _ _
 
 by-other : (s : Bench) (k a b r v : ℕ) → same k 4 ≡ false → isNone (closingAt (eventOf k a b r v) s) ≡ true
-unfolding closingAt isNone closingNumber eventOf same choose
+unfolding closingAt isNone closingNumber eventOf same select
 by-other s k a b r v e = rw e (go (same k 1) (same k 2) (same k 3) (same k 5))
   where
     go : (start send arrive crash : Bool)
-        → isNone (closingAt (choose start (Start a v)
-        (choose send (Send a b)
-        (choose arrive (Arrive a b (messageFrom r))
-        (choose false (Close a) (choose crash (Crash a) (Suspect a b)))))) s) ≡ true
+        → isNone (closingAt (select start (Start a v)
+        (select send (Send a b)
+        (select arrive (Arrive a b (messageFrom r))
+        (select false (Close a) (select crash (Crash a) (Suspect a b)))))) s) ≡ true
     go true send arrive crash = refl
     go false true arrive crash = refl
     go false false true crash = refl
@@ -80,32 +84,28 @@ got-event {e} p = ap (λ (d : Decoded). eventFrom d) p
     eventFrom (Got x) = x
     eventFrom (Refused r) = e
 
-none : isNone None ≡ true
-unfolding isNone closingNumber same
-none = refl
-
 module _ (s : Bench) (l : List ℕ) where
   -- of an accepted record, that of its event; of a refused one none
   pub closing-event : (e : Event) → refusal s l ≡ 0 → decodeOf (s .n) (s .t) l ≡ Got e → closingIn s l ≡ closingAt e s
-  unfolding closingIn closingDecoded
-  closing-event e z d = choose-on _ _ _ (same-mk _ _ z) ∙ rw d
+  unfolding closingIn closingDecoded endsBy decodeAs refusal
+  closing-event e z d = select-on _ _ _ (same-mk _ _ z) ∙ rw d
 
   pub closing-refused : refusal s l ≢ 0 → closingIn s l ≡ None
-  unfolding closingIn
-  closing-refused h = choose-off _ _ _ (same-off _ _ h)
+  unfolding closingIn endsBy decodeAs refusal
+  closing-refused h = select-off _ _ _ (same-off _ _ h)
 
   -- none exactly where the record is refused or is no close, which is kind 4
-  pub closing-none : isNone (closingIn s l) ≡ not (same (refusal s l) 0 && same (getD l 0 0) 4)
+  pub closing-none : isNone (closingIn s l) ≡ not (same (refusal s l) 0 and same (getD l 0 0) 4)
   closing-none = go (is (same (refusal s l) 0))
     where
-      go : Is (same (refusal s l) 0) → isNone (closingIn s l) ≡ not (same (refusal s l) 0 && same (getD l 0 0) 4)
+      go : Is (same (refusal s l) 0) → isNone (closingIn s l) ≡ not (same (refusal s l) 0 and same (getD l 0 0) 4)
       go (on e) =
           let w = accepted s l (same-on _ 0 e) in
           let f = decode-from (s .n) (s .t) l (w .event) (w .decoded) in
           rw (closing-event (w .event) (same-on _ 0 e) (w .decoded), f .event, and-on-l _ (same (getD l 0 0) 4) e)
           (by-kind s (getD l 0 0) _ _ _ _)
       go (off e) =
-          rw (closing-refused (same-not _ 0 e), and-off-l _ (same (getD l 0 0) 4) e) none
+          rw (closing-refused (same-not _ 0 e), and-off-l _ (same (getD l 0 0) 4) e) none-is
 
   -- ---- an accepted close of process a
   module _ (a : ℕ) (z : refusal s l ≡ 0) (d : decodeOf (s .n) (s .t) l ≡ Got (Close a)) where
@@ -119,10 +119,10 @@ module _ (s : Bench) (l : List ℕ) where
     closed = closeOf (s .n) (s .t) a (rowsAt s (processAt s a .round)) (processAt s a)
 
     stands : a < length (s .processes) → processAt (closesAs s a closed) a ≡ closed
-    unfolding closesAs opensRound withProcess withSent processAt choose
+    unfolding closesAs opensRound withProcess withSent processAt select
     stands h = go (hasDecided closed)
       where
-        go : (b : Bool) → processAt (choose b (withProcess s a closed) (opensRound s a closed)) a ≡ closed
+        go : (b : Bool) → processAt (select b (withProcess s a closed) (opensRound s a closed)) a ≡ closed
         go true = getD-set-same (s .processes) a closed noProcess h
         go false = getD-set-same (s .processes) a closed noProcess h
 
@@ -131,12 +131,12 @@ module _ (s : Bench) (l : List ℕ) where
     undecided =
         let w = accepted s l z in
         let same-event : w .event ≡ Close a = got-event (sym (w .decoded) ∙ d) in
-        not-on _ (and-r _ _ (and-l _ _ (rw same-event at (w .passes .pass7))))
+        not-on _ (and-second _ _ (and-first _ _ (rw same-event at (w .passes .pass7))))
 
     -- it is next round exactly where the process is then undecided; every bench has 16 processes
     pub closing-undecided : length (s .processes) ≡ 16
         → opensNext (closingIn s l) ≡ not (hasDecided (processAt (afterRecord s l) a))
-    unfolding closingAt effect effectOf effectDecoded inRange
+    unfolding closingAt effect effectOf effectDecoded inRange effectBy decodeAs
     closing-undecided h =
         let low : a < 16 = omega (
           arith,
@@ -147,29 +147,6 @@ module _ (s : Bench) (l : List ℕ) where
         (next-undecided _ _ _ _ _ undecided)
 
 -- ---- a run
--- one after another: a later close is the one, and none adds nothing
-pub last-close : (c d : Closing) → isNone d ≡ false → lastOf c d ≡ d
-unfolding lastOf
-last-close c d e = choose-off _ _ _ e
-
-pub last-none : (c : Closing) → lastOf c None ≡ c
-unfolding lastOf
-last-none c = choose-on _ _ _ none
-
-pub none-last : (d : Closing) → lastOf None d ≡ d
-unfolding lastOf isNone closingNumber same choose
-none-last None = refl
-none-last NextRound = refl
-none-last Agreed = refl
-none-last LastRound = refl
-
-pub last-last : (c d e : Closing) → lastOf (lastOf c d) e ≡ lastOf c (lastOf d e)
-unfolding lastOf isNone closingNumber same choose
-last-last c d None = refl
-last-last c d NextRound = refl
-last-last c d Agreed = refl
-last-last c d LastRound = refl
-
 -- the closing of record i, from 0, with all before it stepped
 abbrev ofRecord : Bench → List ℕ → ℕ → Closing
 ofRecord s l i = closingIn (steps i s l) (recordAt i l)
@@ -183,12 +160,12 @@ pub record LastClose (k : ℕ) (s : Bench) (l : List ℕ) (x : Closing) : Type 0
   pub none-after : (j : ℕ) → i < j → j < k → isNone (ofRecord s l j) ≡ true
 
 -- the closings of the records after the first are those of the rest
-shift : (s : Bench) (l : List ℕ) (i : ℕ) → ofRecord s l (suc i) ≡ ofRecord (afterRecord s (take 8 l)) (drop 8 l) i
+shifted : (s : Bench) (l : List ℕ) (i : ℕ) → ofRecord s l (suc i) ≡ ofRecord (afterRecord s (take 8 l)) (drop 8 l) i
 unfolding steps recordAt
-shift s l i = ap (λ (x : List ℕ). closingIn (steps (suc i) s l) (take 8 x)) (sym (rest-next i l))
+shifted s l i = ap (λ (x : List ℕ). closingIn (steps (suc i) s l) (take 8 x)) (sym (rest-next i l))
 
 first : (s : Bench) (l : List ℕ) → ofRecord s l 0 ≡ closingIn s (take 8 l)
-unfolding steps recordAt restOf
+unfolding steps recordAt restAt
 first s l = refl
 
 -- what k records give one by one, c before them: that of the last close among them, and without one c
@@ -211,25 +188,25 @@ closing-to (suc k) s l c =
     later w = inl (record {
       i = suc (w .i);
       within = omega (arith, w .within);
-      gives = w .gives ∙ sym (shift s l (w .i));
+      gives = w .gives ∙ sym (shifted s l (w .i));
       is-close = w .is-close;
       none-after = after;
     })
       where
         after : (j : ℕ) → suc (w .i) < j → j < suc k → isNone (ofRecord s l j) ≡ true
         after zero p q = absurd (omega arith)
-        after (suc j) p q = ap isNone (shift s l j) ∙ w .none-after j (omega arith) (omega arith)
+        after (suc j) p q = ap isNone (shifted s l j) ∙ w .none-after j (omega arith) (omega arith)
 
     earlier : (x ≡ lastOf c (closingIn s (take 8 l))) × ((j : ℕ) → j < k → isNone (ofRecord s′ (drop 8 l) j) ≡ true)
         → LastClose (suc k) s l x ⊎ ((x ≡ c) × ((j : ℕ) → j < suc k → isNone (ofRecord s l j) ≡ true))
     earlier (e, none-of) = go (is (isNone (closingIn s (take 8 l))))
       where
         rest-none : (j : ℕ) → j < k → isNone (ofRecord s l (suc j)) ≡ true
-        rest-none j p = ap isNone (shift s l j) ∙ none-of j p
+        rest-none j p = ap isNone (shifted s l j) ∙ none-of j p
 
         go : Is (isNone (closingIn s (take 8 l)))
             → LastClose (suc k) s l x ⊎ ((x ≡ c) × ((j : ℕ) → j < suc k → isNone (ofRecord s l j) ≡ true))
-        go (on z) = inr (e ∙ choose-on _ _ _ z, all)
+        go (on z) = inr (e ∙ select-on _ _ _ z, all)
           where
             all : (j : ℕ) → j < suc k → isNone (ofRecord s l j) ≡ true
             all zero p = ap isNone (first s l) ∙ z
@@ -237,8 +214,8 @@ closing-to (suc k) s l c =
         go (off z) = inl (record {
           i = 0;
           within = omega arith;
-          gives = e ∙ choose-off _ _ _ z ∙ sym (first s l);
-          is-close = ap isNone (e ∙ choose-off _ _ _ z) ∙ z;
+          gives = e ∙ select-off _ _ _ z ∙ sym (first s l);
+          is-close = ap isNone (e ∙ select-off _ _ _ z) ∙ z;
           none-after = after;
         })
           where

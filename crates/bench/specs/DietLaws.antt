@@ -1,5 +1,6 @@
--- Refusal 15 depends on the record alone: it is given of a start, just where the diet portions exceed the portions.
--- And no refusal looks at the words that a bench holds: a bench with such an entry passes 2, and is stepped.
+-- Refusal 15 of a record: on a bench that is not damaged it is given of a start that is read there, just where the
+-- diet portions exceed the portions. And no refusal of a record looks at the words that a bench holds: a bench with
+-- such an entry passes 2, and is stepped.
 -- Each check is taken apart; a bench with its words erased is refused what the bench is.
 use mathlib.Core.Path.{_≡_, refl, sym, ap, ap₂, _∙_}
 use mathlib.Core.List.{List, [], _∷_, map}
@@ -8,7 +9,7 @@ use Prim.Native.Nat.{ℕ, zero, suc, _≤_, _<_}
 use native.Mathlib.Omega.{arith}
 use lib.ListN.{getD}
 use Rattle.sets.specs.Lists.{everyIn}
-use Rattle.sets.specs.Truth.{_&&_, check}
+use Rattle.sets.specs.Truth.{_and_, check}
 use Rattle.sets.specs.TruthLaws.{Is, on, off, is, clash, check-on, check-off}
 use Rattle.global_data.specs.declared.GlobalData.{GlobalData}
 use Rattle.global_data.specs.GlobalData.{portionsOf, dietOf}
@@ -25,7 +26,9 @@ use Rattle.bench.specs.State.{processAt, transitAt, crashedAt, benchOf}
 use Rattle.bench.specs.Sound.{soundData, soundProcess, soundOf}
 use Rattle.bench.specs.Record.{readOf, startFits, checkDiet, decodeOf}
 use Rattle.bench.specs.RecordLaws.{diet-fit, diet-unfit, diet-refused, read-refused}
-use Rattle.bench.specs.Refuse.{passes7, passes8, passes9, refuses, refusesDecoded, refusal}
+use Rattle.bench.specs.Record.{decodeAs}
+use Rattle.bench.specs.Refuse.{refusalBy, refusal}
+use Rattle.bench.specs.Refuse.{passes7, passes8, passes9, refuses, refusesDecoded}
 use Rattle.bench.specs.RefuseLaws.{refusal-damaged, refusal-unread, refusal-event}
 
 -- ---- 15, and the record that has it
@@ -111,7 +114,7 @@ every-map : {A : Type 0} (p : A → Bool) (f : A → A) → ((x : A) → p (f x)
     → everyIn p (map f l) ≡ everyIn p l
 unfolding everyIn
 every-map p f h [] = refl
-every-map p f h (x ∷ l) = ap₂ _&&_ (h x) (every-map p f h l)
+every-map p f h (x ∷ l) = ap₂ _and_ (h x) (every-map p f h l)
 
 sound-erased : (s : Bench) → soundOf (erased s) ≡ soundOf s
 unfolding soundOf erased wordless noWords soundProcess soundData
@@ -154,7 +157,7 @@ unfolding refuses passes9 crashedAt erased
 refuses-erased e s = rw (pass7-erased e s, pass8-erased e s)
 
 refusal-erased : (s : Bench) (l : List ℕ) → refusal (erased s) l ≡ refusal s l
-unfolding refusal refusesDecoded erased
+unfolding refusal refusalBy decodeAs refusesDecoded erased
 refusal-erased s l =
     ap₂ (λ b k. check b 2 k) (sound-erased s) (decoded (decodeOf (s .n) (s .t) l))
   where

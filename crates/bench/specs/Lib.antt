@@ -8,6 +8,7 @@ pub mod Closings
 pub mod DietLaws
 pub mod Effect
 pub mod EveryInLaws
+pub mod LastLaws
 pub mod ListedLaws
 pub mod OldRules
 pub mod OldRulesLaws
@@ -18,6 +19,7 @@ pub mod Refuse
 pub mod RefuseLaws
 pub mod RewriteLaws
 pub mod RunLaws
+pub mod RunLoop
 pub mod Sound
 pub mod SoundLaws
 pub mod State

@@ -18,7 +18,7 @@ use native.Mathlib.Bridge.{le-prop}
 use native.Mathlib.Omega.{arith}
 use lib.ListN.{length}
 use Rattle.sets.specs.Lists.{joined}
-use Rattle.sets.specs.Truth.{choose}
+use Rattle.sets.specs.Truth.{select}
 use Rattle.sets.specs.TruthLaws.{clash, eq-or, le-or}
 use Rattle.bench.specs.TransitOrder.{ListedMessage, bytesOf, Before, by-round, by-sender, by-receiver}
 use Rattle.bench.specs.TransitOrder.{Lists, Extra}
@@ -210,8 +210,8 @@ lists-as P Q bytes h w =
 
 -- one message, where a test says so
 pub lists-one : (b : Bool) (x : ListedMessage)
-    → Lists (λ m. (m ≡ x) × (b ≡ true)) (choose b (x .sender ∷ x .receiver ∷ x .round ∷ []) [])
-unfolding choose bytesOf
+    → Lists (λ m. (m ≡ x) × (b ≡ true)) (select b (x .sender ∷ x .receiver ∷ x .round ∷ []) [])
+unfolding select bytesOf
 lists-one true x =
     record {
       messages = x ∷ [];

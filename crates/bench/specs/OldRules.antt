@@ -1,26 +1,23 @@
--- The rules before request C-15: what it changed, and nothing else. A value was one number of 32 bits; so two entries
--- were the same where they were absent in both or one number in both, and bytes were decoded without refusal 15.
-use mathlib.Core.List.{List}
-use mathlib.Core.Bool.{Bool, true, false, not}
-use Prim.Native.Nat.{ℕ}
+-- The protocol steps before request C-15, where a value was one number of 32 bits: two entries were the same where
+-- they were absent in both or one number in both. OldRulesLaws shows that the steps of now do the same; of these only
+-- the entries are named in a claim, that of carried ones.
+use mathlib.Core.Bool.{Bool, true, false}
+use Prim.Native.Nat.{ℕ, _+_}
 use lib.ListN.{getD}
 use Rattle.sets.specs.Lists.{every}
 use Rattle.sets.specs.Set.{has}
-use Rattle.sets.specs.Truth.{_&&_, same, choose}
+use Rattle.sets.specs.Truth.{_and_, same, select}
 use Rattle.global_data.specs.declared.GlobalData.{GlobalData}
 use Rattle.process.specs.declared.Process.{Process}
 use Rattle.process.specs.declared.Closing.{Closing}
-use Rattle.process.specs.Steps.{nextOf, peersOf, filledOf, endingBy, opensNext, closedBy}
+use Rattle.process.specs.declared.Closing.the-variants.{NextRound, Agreed, LastRound}
+use Rattle.process.specs.Steps.{nextOf, peersOf, filledOf, opensNext, advanceOf, owedOf, decideOf}
 use Rattle.bench.specs.declared.Bench.{Bench}
 use Rattle.bench.specs.declared.Event.{Event}
 use Rattle.bench.specs.declared.Event.the-variants.{Start, Send, Arrive, Close, Crash, Suspect}
-use Rattle.bench.specs.declared.Decoded.{Decoded}
 use Rattle.bench.specs.State.{processAt}
-use Rattle.bench.specs.Record.{readOf}
-use Rattle.bench.specs.Refuse.{refusalOf}
-use Rattle.bench.specs.Effect.{rowsAt, closesAs, effect, effectDecoded}
-use Rattle.bench.specs.Closings.{closingAt, closingDecoded, closingUnless}
-use Rattle.bench.specs.Calls.{Rules, rules}
+use Rattle.bench.specs.Effect.{rowsAt, closesAs, effect}
+use Rattle.bench.specs.Closings.{closingAt}
 
 -- ---- entries: absent, or a value, one number
 pub data OldEntry : Type 0 where
@@ -28,7 +25,7 @@ pub data OldEntry : Type 0 where
   number : ℕ → OldEntry
 
 unfoldable pub oldEntryOf : GlobalData → ℕ → OldEntry
-oldEntryOf g k = choose (has (g .present) k) (number (getD (g .values) k 0)) absent
+oldEntryOf g k = select (has (g .present) k) (number (getD (g .values) k 0)) absent
 
 unfoldable pub oldSameEntry : OldEntry → OldEntry → Bool
 oldSameEntry absent absent = true
@@ -44,14 +41,16 @@ unfoldable pub oldAgreed : ℕ → ℕ → (ℕ → GlobalData) → Process → 
 oldAgreed n a rows p =
     let g = filledOf a rows p in
     same (p .previous) (nextOf a p)
-    && (oldSameTo n g (p .estimate) && every 16 (λ q. choose (has (peersOf a p) q) (oldSameTo n (rows q) g) true))
+    and (oldSameTo n g (p .estimate) and every 16 (λ q. select (has (peersOf a p) q) (oldSameTo n (rows q) g) true))
 
 -- how a round ended, and what a close did, by that test
 unfoldable pub oldClosingOf : ℕ → ℕ → ℕ → (ℕ → GlobalData) → Process → Closing
-oldClosingOf n t a rows p = endingBy t (oldAgreed n a rows p) p
+oldClosingOf n t a rows p = select (same (p .round) (t + 1)) LastRound (select (oldAgreed n a rows p) Agreed NextRound)
 
 unfoldable pub oldCloseOf : ℕ → ℕ → ℕ → (ℕ → GlobalData) → Process → Process
-oldCloseOf n t a rows p = closedBy (not (opensNext (oldClosingOf n t a rows p))) n a rows p
+oldCloseOf n t a rows p =
+    let g = filledOf a rows p in
+    select (opensNext (oldClosingOf n t a rows p)) (advanceOf a g p) (decideOf g (owedOf n a p) p)
 
 -- no other event compares entries
 unfoldable pub oldEffect : Event → Bench → Bench
@@ -69,28 +68,3 @@ oldClosingAt (Arrive a b m) s = closingAt (Arrive a b m) s
 oldClosingAt (Close a) s = oldClosingOf (s .n) (s .t) a (rowsAt s (processAt s a .round)) (processAt s a)
 oldClosingAt (Crash a) s = closingAt (Crash a) s
 oldClosingAt (Suspect a b) s = closingAt (Suspect a b) s
-
--- ---- any bytes: 3, 4 and 5, and no 15
-abbrev pub oldDecode : Bench → List ℕ → Decoded
-oldDecode s bytes = readOf (s .n) (s .t) bytes
-
-unfoldable pub oldRefusal : Bench → List ℕ → ℕ
-oldRefusal s bytes = refusalOf (oldDecode s bytes) s
-
-abbrev pub oldRules : Rules
-oldRules =
-    record {
-      decodes = oldDecode;
-      refuses = oldRefusal;
-      does = λ s bytes. effectDecoded oldEffect (oldDecode s bytes) s;
-      ends = λ s bytes. closingUnless (oldRefusal s bytes) (closingDecoded oldClosingAt (oldDecode s bytes) s);
-    }
-
--- ---- a bench is of one form or the other, and is stepped by its rules
-pub data Form : Type 0 where
-  before : Form
-  now : Form
-
-unfoldable pub rulesOf : Form → Rules
-rulesOf before = oldRules
-rulesOf now = rules

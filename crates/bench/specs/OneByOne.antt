@@ -7,11 +7,11 @@ use Rattle.bench.specs.declared.Bench.{Bench}
 use Rattle.bench.specs.Calls.{afterRecord}
 
 -- the bytes left after k records, and the record at their head
-unfoldable pub restOf : ℕ → List ℕ → List ℕ
-restOf k l = drop (8 * k) l
+unfoldable pub restAt : ℕ → List ℕ → List ℕ
+restAt k l = drop (8 * k) l
 
 unfoldable pub recordAt : ℕ → List ℕ → List ℕ
-recordAt k l = take 8 (restOf k l)
+recordAt k l = take 8 (restAt k l)
 
 unfoldable pub steps : ℕ → Bench → List ℕ → Bench
 steps zero s l = s

@@ -10,10 +10,10 @@ use native.Mathlib.Nat.{div-div-eq-div-mul}
 use native.Mathlib.Omega.{arith}
 use lib.Dec.{eqb, lit<}
 use lib.ListN.{getD, length}
-use Rattle.sets.specs.Truth.{_&&_, _||_, same, below, choose, oneTo}
-use Rattle.sets.specs.TruthLaws.{one-low, one-high, one-mk, Is, on, off, is, choose-on, choose-off, and-l}
-use Rattle.sets.specs.TruthLaws.{and-r, and-mk, or-off-l, or-mk-l, not-on, same-on, same-mk, same-off, same-not}
-use Rattle.sets.specs.TruthLaws.{below-on, below-mk}
+use Rattle.sets.specs.Truth.{_and_, _or_, same, less, select, oneTo}
+use Rattle.sets.specs.TruthLaws.{one-low, one-high, one-mk, Is, on, off, is, select-on, select-off, and-first}
+use Rattle.sets.specs.TruthLaws.{and-second, and-mk, or-off-l, or-mk-l, not-on, same-on, same-mk, same-off, same-not}
+use Rattle.sets.specs.TruthLaws.{less-on, less-mk}
 use Rattle.global_data.specs.GlobalData.{portionsOf, dietOf, valueIn, dietFits}
 use Rattle.global_data.specs.WordLaws.{fits-mk}
 use Rattle.bench.specs.declared.Refusal.{Refusal}
@@ -23,8 +23,8 @@ use Rattle.bench.specs.declared.Event.{Event}
 use Rattle.bench.specs.declared.Event.the-variants.{Start, Send, Arrive, Close, Crash, Suspect}
 use Rattle.bench.specs.declared.Decoded.{Decoded}
 use Rattle.bench.specs.declared.Decoded.the-variants.{Got, Refused}
-use Rattle.bench.specs.Record.{wordOf, usesB, usesR, usesValue, fieldB, fieldR}
-use Rattle.bench.specs.Record.{fieldValue, fields, messageFrom, eventOf, partsOf}
+use Rattle.bench.specs.Record.{wordOf, usesB}
+use Rattle.bench.specs.Record.{fields, messageFrom, eventOf, partsOf}
 use Rattle.bench.specs.Record.{valueOf, readOf, startFits, checkDiet, decodeOf}
 
 -- a value's two numbers: portions in the first two bytes, diet portions in the last two
@@ -37,28 +37,28 @@ value-parts a b c d h k = (omega arith, omega arith)
 module _ (n t kind a b r v : ℕ) where
   pub parts-unknown : oneTo 6 kind ≡ false → partsOf n t kind a b r v ≡ Refused (record { number = 4 })
   unfolding partsOf
-  parts-unknown e = choose-off _ _ _ e
+  parts-unknown e = select-off _ _ _ e
 
   pub parts-unfit : oneTo 6 kind ≡ true → fields n t kind a b r v ≡ false
       → partsOf n t kind a b r v ≡ Refused (record { number = 5 })
   unfolding partsOf
-  parts-unfit e f = choose-on _ _ _ e ∙ choose-off _ _ _ f
+  parts-unfit e f = select-on _ _ _ e ∙ select-off _ _ _ f
 
   pub parts-got : oneTo 6 kind ≡ true → fields n t kind a b r v ≡ true
       → partsOf n t kind a b r v ≡ Got (eventOf kind (a - 1) (b - 1) r v)
   unfolding partsOf
-  parts-got e f = choose-on _ _ _ e ∙ choose-on _ _ _ f
+  parts-got e f = select-on _ _ _ e ∙ select-on _ _ _ f
 
 -- ---- bytes: refusal 3, or the parts
 module _ (n t : ℕ) (l : List ℕ) where
   read-size : length l ≢ 8 → readOf n t l ≡ Refused (record { number = 3 })
   unfolding readOf
-  read-size h = choose-off _ _ _ (same-off (length l) 8 h)
+  read-size h = select-off _ _ _ (same-off (length l) 8 h)
 
   read-parts : length l ≡ 8
       → readOf n t l ≡ partsOf n t (getD l 0 0) (getD l 1 0) (getD l 2 0) (getD l 3 0) (valueOf l)
   unfolding readOf
-  read-parts h = choose-on _ _ _ (same-mk (length l) 8 h)
+  read-parts h = select-on _ _ _ (same-mk (length l) 8 h)
 
 -- what an event was decoded from
 pub record From (n t : ℕ) (l : List ℕ) (e : Event) : Type 0 where
@@ -113,11 +113,11 @@ read-refused n t l r p = go (outcome n t l)
 module _ (e : Event) where
   pub diet-fit : startFits e ≡ true → checkDiet (Got e) ≡ Got e
   unfolding checkDiet
-  diet-fit h = choose-on _ _ _ h
+  diet-fit h = select-on _ _ _ h
 
   pub diet-unfit : startFits e ≡ false → checkDiet (Got e) ≡ Refused (record { number = 15 })
   unfolding checkDiet
-  diet-unfit h = choose-off _ _ _ h
+  diet-unfit h = select-off _ _ _ h
 
 pub diet-refused : (r : Refusal) → checkDiet (Refused r) ≡ Refused r
 unfolding checkDiet
@@ -125,9 +125,9 @@ diet-refused r = refl
 
 -- no record of another kind has one
 others-fit : (a b : ℕ) (m : Message) (x y z u : Bool)
-    → startFits (choose x (Send a b) (choose y (Arrive a b m) (choose z (Close a) (choose u (Crash a) (Suspect a b)))))
+    → startFits (select x (Send a b) (select y (Arrive a b m) (select z (Close a) (select u (Crash a) (Suspect a b)))))
     ≡ true
-unfolding startFits choose
+unfolding startFits select
 others-fit a b m true y z u = refl
 others-fit a b m false true z u = refl
 others-fit a b m false false true u = refl
@@ -135,13 +135,13 @@ others-fit a b m false false false true = refl
 others-fit a b m false false false false = refl
 
 -- of a record's kind and value, as the code tests it
-pub start-fits : (kind a b r v : ℕ) → startFits (eventOf kind a b r v) ≡ (not (same kind 1) || dietFits (valueIn v))
+pub start-fits : (kind a b r v : ℕ) → startFits (eventOf kind a b r v) ≡ (not (same kind 1) or dietFits (valueIn v))
 unfolding startFits eventOf
 start-fits kind a b r v = go (is (same kind 1))
   where
-    go : Is (same kind 1) → startFits (eventOf kind a b r v) ≡ (not (same kind 1) || dietFits (valueIn v))
-    go (on e) = ap startFits (choose-on _ _ _ e) ∙ sym (or-off-l _ _ (ap not e))
-    go (off e) = ap startFits (choose-off _ _ _ e) ∙ others-fit _ _ _ _ _ _ _ ∙ sym (or-mk-l _ _ (ap not e))
+    go : Is (same kind 1) → startFits (eventOf kind a b r v) ≡ (not (same kind 1) or dietFits (valueIn v))
+    go (on e) = ap startFits (select-on _ _ _ e) ∙ sym (or-off-l _ _ (ap not e))
+    go (off e) = ap startFits (select-off _ _ _ e) ∙ others-fit _ _ _ _ _ _ _ ∙ sym (or-mk-l _ _ (ap not e))
 
 -- a record of a known kind: refusal 5, refusal 15, or the event
 module _ (n t kind a b r v : ℕ) (known : oneTo 6 kind ≡ true) where
@@ -149,12 +149,12 @@ module _ (n t kind a b r v : ℕ) (known : oneTo 6 kind ≡ true) where
       → checkDiet (partsOf n t kind a b r v) ≡ Refused (record { number = 5 })
   checked-unfit f = ap checkDiet (parts-unfit n t kind a b r v known f) ∙ diet-refused _
 
-  pub checked-diet : fields n t kind a b r v ≡ true → (not (same kind 1) || dietFits (valueIn v)) ≡ false
+  pub checked-diet : fields n t kind a b r v ≡ true → (not (same kind 1) or dietFits (valueIn v)) ≡ false
       → checkDiet (partsOf n t kind a b r v) ≡ Refused (record { number = 15 })
   checked-diet f d =
       ap checkDiet (parts-got n t kind a b r v known f) ∙ diet-unfit _ (start-fits kind (a - 1) (b - 1) r v ∙ d)
 
-  pub checked-got : fields n t kind a b r v ≡ true → (not (same kind 1) || dietFits (valueIn v)) ≡ true
+  pub checked-got : fields n t kind a b r v ≡ true → (not (same kind 1) or dietFits (valueIn v)) ≡ true
       → checkDiet (partsOf n t kind a b r v) ≡ Got (eventOf kind (a - 1) (b - 1) r v)
   checked-got f d =
       ap checkDiet (parts-got n t kind a b r v known f) ∙ diet-fit _ (start-fits kind (a - 1) (b - 1) r v ∙ d)
@@ -233,25 +233,25 @@ inRange n t (Suspect a b) = Pair n a b
 process-on : (n x : ℕ) → oneTo n x ≡ true → (0 < x) × (x ≤ n)
 process-on n x e = (one-low n x e, one-high n x e)
 
-pair-on : (n a b : ℕ) → oneTo n a ≡ true → (oneTo n b && not (same a b)) ≡ true → Pair n (a - 1) (b - 1)
+pair-on : (n a b : ℕ) → oneTo n a ≡ true → (oneTo n b and not (same a b)) ≡ true → Pair n (a - 1) (b - 1)
 pair-on n a b p q =
     let x = process-on n a p in
-    let y = process-on n b (and-l (oneTo n b) (not (same a b)) q) in
-    let d = same-not a b (not-on (same a b) (and-r (oneTo n b) (not (same a b)) q)) in
+    let y = process-on n b (and-first (oneTo n b) (not (same a b)) q) in
+    let d = same-not a b (not-on (same a b) (and-second (oneTo n b) (not (same a b)) q)) in
     record {
       first = omega (arith, x .0, x .1);
       second = omega (arith, y .0, y .1);
       differ = λ e. d (omega (arith, x .0, y .0));
     }
 
-message-on : (t r : ℕ) → below r (t + 2) ≡ true → messageIn t (messageFrom r)
+message-on : (t r : ℕ) → less r (t + 2) ≡ true → messageIn t (messageFrom r)
 unfolding messageFrom messageIn
 message-on t r e = go (is (same r 0))
   where
     go : Is (same r 0) → messageIn t (messageFrom r)
-    go (on z) = rw (choose-on (same r 0) Decision (Estimate r) z) tt
+    go (on z) = rw (select-on (same r 0) Decision (Estimate r) z) tt
     go (off z) =
-        rw (choose-off (same r 0) Decision (Estimate r) z) (omega (arith, same-not r 0 z, below-on r (t + 2) e))
+        rw (select-off (same r 0) Decision (Estimate r) z) (omega (arith, same-not r 0 z, less-on r (t + 2) e))
 
 -- what holds of the kinds 1 to 6 holds of each kind
 six : (P : ℕ → Type 0) → P 1 → P 2 → P 3 → P 4 → P 5 → P 6 → (k : ℕ) → oneTo 6 k ≡ true → P k
@@ -269,25 +269,28 @@ six P p1 p2 p3 p4 p5 p6 k e = go k (one-low 6 k e) (one-high 6 k e)
 
 fields-range : (n t a b r v kind : ℕ) → oneTo 6 kind ≡ true → fields n t kind a b r v ≡ true
     → inRange n t (eventOf kind (a - 1) (b - 1) r v)
-unfolding fields fieldB fieldR usesB usesR eventOf inRange same _||_ choose
+unfolding fields usesB eventOf inRange same _or_ select
 fields-range n t a b r v =
     six (λ kind. fields n t kind a b r v ≡ true → inRange n t (eventOf kind (a - 1) (b - 1) r v))
     (alone _) (pair _) (arrival _) (alone _) (alone _) (pair _)
   where
-    alone : (y : Bool) → (oneTo n a && y) ≡ true → a - 1 < n
-    alone y e = let p = process-on n a (and-l (oneTo n a) y e) in omega (arith, p .0, p .1)
+    alone : (y : Bool) → (oneTo n a and y) ≡ true → a - 1 < n
+    alone y e = let p = process-on n a (and-first (oneTo n a) y e) in omega (arith, p .0, p .1)
 
-    pair : (y : Bool) → (oneTo n a && ((oneTo n b && not (eqb a b)) && y)) ≡ true → Pair n (a - 1) (b - 1)
+    pair : (y : Bool) → (oneTo n a and ((oneTo n b and not (eqb a b)) and y)) ≡ true → Pair n (a - 1) (b - 1)
     pair y e =
-        let q = oneTo n b && not (eqb a b) in
-        pair-on n a b (and-l (oneTo n a) (q && y) e) (and-l q y (and-r (oneTo n a) (q && y) e))
+        let q = oneTo n b and not (eqb a b) in
+        pair-on n a b (and-first (oneTo n a) (q and y) e) (and-first q y (and-second (oneTo n a) (q and y) e))
 
-    arrival : (y : Bool) → (oneTo n a && ((oneTo n b && not (eqb a b)) && (below r (t + 2) && y))) ≡ true
+    arrival : (y : Bool) → (oneTo n a and ((oneTo n b and not (eqb a b)) and (less r (t + 2) and y))) ≡ true
         → Pair n (a - 1) (b - 1) × messageIn t (messageFrom r)
     arrival y e =
-        let q = oneTo n b && not (eqb a b) in
-        let z = below r (t + 2) in
-        (pair (z && y) e, message-on t r (and-l z y (and-r q (z && y) (and-r (oneTo n a) (q && (z && y)) e))))
+        let q = oneTo n b and not (eqb a b) in
+        let z = less r (t + 2) in (
+          pair (z and y) e,
+          message-on t r
+              (and-first z y (and-second q (z and y) (and-second (oneTo n a) (q and (z and y)) e))),
+        )
 
 pub read-range : (n t : ℕ) (l : List ℕ) (e : Event) → readOf n t l ≡ Got e → inRange n t e
 read-range n t l e p =
@@ -330,9 +333,9 @@ four : (v a b c : ℕ) → a ≡ v / 256 → b ≡ a / 256 → c ≡ b / 256 →
     → v % 256 + a % 256 * 256 + b % 256 * 65536 + c % 256 * 16777216 ≡ v
 four v a b c p q r h = omega arith
 
-digits : (v : ℕ) → v < 4294967296 → wordOf (v % 256) (v / 256 % 256) (v / 65536 % 256) (v / 16777216 % 256) ≡ v
+word-digits : (v : ℕ) → v < 4294967296 → wordOf (v % 256) (v / 256 % 256) (v / 65536 % 256) (v / 16777216 % 256) ≡ v
 unfolding wordOf
-digits v h =
+word-digits v h =
     four v (v / 256) (v / 65536) (v / 16777216) refl (sym (div-div-eq-div-mul v 256 256))
     (sym (div-div-eq-div-mul v 65536 256)) h
 
@@ -340,26 +343,26 @@ digits v h =
 process-mk : (n a : ℕ) → a < n → oneTo n (a + 1) ≡ true
 process-mk n a h = one-mk n (a + 1) (omega arith) (omega arith)
 
-pair-mk : (n a b : ℕ) → Pair n a b → (oneTo n (b + 1) && not (same (a + 1) (b + 1))) ≡ true
+pair-mk : (n a b : ℕ) → Pair n a b → (oneTo n (b + 1) and not (same (a + 1) (b + 1))) ≡ true
 pair-mk n a b p =
     and-mk (oneTo n (b + 1)) (not (same (a + 1) (b + 1))) (process-mk n b (p .second))
     (ap not (same-off (a + 1) (b + 1) (λ e. p .differ (omega (arith, e)))))
 
 -- bytes whose parts pass each test, with a and b given from 0
 read-bytes : (n t kind a b x r v : ℕ) → b - 1 ≡ x → v < 4294967296 → oneTo 6 kind ≡ true → a < n
-    → fieldB n kind (a + 1) b ≡ true
-    → fieldR t kind r ≡ true → fieldValue kind v ≡ true
+    → select (usesB kind) (oneTo n b and not (same (a + 1) b)) (same b 0) ≡ true
+    → select (same kind 3) (less r (t + 2)) (same r 0) ≡ true → (same kind 1 or same v 0) ≡ true
     → readOf n t (bytesOf kind (a + 1) b r v) ≡ Got (eventOf kind a x r v)
 unfolding bytesOf valueOf fields
 read-bytes n t kind a b x r v e h k l p q w =
-    read-parts n t (bytesOf kind (a + 1) b r v) refl ∙ ap (partsOf n t kind (a + 1) b r) (digits v h)
+    read-parts n t (bytesOf kind (a + 1) b r v) refl ∙ ap (partsOf n t kind (a + 1) b r) (word-digits v h)
     ∙ parts-got n t kind (a + 1) b r v k (and-mk _ _ (process-mk n a l) (and-mk _ _ p (and-mk _ _ q w)))
     ∙ ap₂ (λ y z. Got (eventOf kind y z r v)) (omega arith) e
 
 -- every event in range is read from its bytes
 read-encode : (n t : ℕ) (e : Event) → inRange n t e → valueFits e → readOf n t (encodeOf e) ≡ Got e
-unfolding inRange valueFits encodeOf fieldB fieldR fieldValue usesB usesR usesValue eventOf messageFrom messageIn same
-    below choose _||_
+unfolding inRange valueFits encodeOf usesB eventOf messageFrom messageIn same
+    less select _or_
 read-encode n t (Start a v) h f =
     read-bytes n t 1 a 0 0 0 v refl (f .0) (one-mk 6 1 (omega arith) (omega arith)) h refl refl refl
 read-encode n t (Send a b) h f =
@@ -368,13 +371,13 @@ read-encode n t (Send a b) h f =
 read-encode n t (Arrive a b (Estimate r)) h f =
     read-bytes n t 3 a (b + 1) b r 0 (omega arith) (lit< tt) (one-mk 6 3 (omega arith) (omega arith)) (h .0 .first)
     (pair-mk n a b (h .0))
-    (below-mk r (t + 2) (omega (arith, h .1 .1))) refl
+    (less-mk r (t + 2) (omega (arith, h .1 .1))) refl
     ∙ ap (λ m. Got (Arrive a b m))
-    (choose-off (same r 0) Decision (Estimate r) (same-off r 0 (λ e. omega (arith, h .1 .0))))
+    (select-off (same r 0) Decision (Estimate r) (same-off r 0 (λ e. omega (arith, h .1 .0))))
 read-encode n t (Arrive a b Decision) h f =
     read-bytes n t 3 a (b + 1) b 0 0 (omega arith) (lit< tt) (one-mk 6 3 (omega arith) (omega arith)) (h .0 .first)
     (pair-mk n a b (h .0))
-    (below-mk 0 (t + 2) (omega arith)) refl
+    (less-mk 0 (t + 2) (omega arith)) refl
 read-encode n t (Close a) h f =
     read-bytes n t 4 a 0 0 0 0 refl (lit< tt) (one-mk 6 4 (omega arith) (omega arith)) h refl refl refl
 read-encode n t (Crash a) h f =
@@ -393,9 +396,9 @@ value-start (Crash a) f = refl
 value-start (Suspect a b) f = refl
 
 -- and decoded from them
-pub decode-encode : (n t : ℕ) (e : Event) → inRange n t e → valueFits e → decodeOf n t (encodeOf e) ≡ Got e
+pub decode-back : (n t : ℕ) (e : Event) → inRange n t e → valueFits e → decodeOf n t (encodeOf e) ≡ Got e
 unfolding decodeOf
-decode-encode n t e h f = ap checkDiet (read-encode n t e h f) ∙ diet-fit e (value-start e f)
+decode-back n t e h f = ap checkDiet (read-encode n t e h f) ∙ diet-fit e (value-start e f)
 
 -- they are 8, and each of them is a byte
 pub encode-size : (e : Event) → length (encodeOf e) ≡ 8

@@ -10,7 +10,7 @@ use native.Mathlib.Omega.{arith}
 use lib.ListN.{length}
 use Rattle.sets.specs.Set.{sizeOf}
 use Rattle.sets.specs.TruthLaws.{or-mk-l, or-off-l, check-on, check-off, check-zero}
-use Rattle.sets.specs.TruthLaws.{choose-on, choose-off, not-on, same-mk, same-off}
+use Rattle.sets.specs.TruthLaws.{select-on, select-off, not-on, same-mk, same-off}
 use Rattle.bench.specs.declared.Bench.{Bench}
 use Rattle.bench.specs.declared.Refusal.{Refusal}
 use Rattle.bench.specs.declared.Event.{Event}
@@ -18,12 +18,14 @@ use Rattle.bench.specs.declared.Decoded.{Decoded}
 use Rattle.bench.specs.declared.Decoded.the-variants.{Got, Refused}
 use Rattle.bench.specs.State.{crashedAt}
 use Rattle.bench.specs.Sound.{soundOf}
-use Rattle.bench.specs.Record.{decodeOf}
+use Rattle.bench.specs.Record.{decodeOf, v2, decodeAs}
 use Rattle.bench.specs.RecordLaws.{inRange, decode-from, decode-refused, decode-range}
-use Rattle.sets.specs.Truth.{below}
-use Rattle.bench.specs.Refuse.{actor, isCrash, passes7, passes8, passes9, refuses, refusesDecoded, refusal}
-use Rattle.bench.specs.Effect.{effect, effectDecoded, effectOf}
-use Rattle.bench.specs.Calls.{afterRecord}
+use Rattle.sets.specs.Truth.{less}
+use Rattle.bench.specs.Refuse.{actor, isCrash, passes7, passes8, passes9, refuses, refusesDecoded, refusalBy}
+use Rattle.bench.specs.Refuse.{refusal}
+use Rattle.bench.specs.Effect.{effect}
+use Rattle.bench.specs.RunLoop.{effectDecoded, effectBy, effectOf}
+use Rattle.bench.specs.Calls.{eventIn, acceptedOne, afterEvents, stepOf, afterRecord}
 
 -- ---- an event is let through when its actor runs and it passes the checks 7, 8 and 9
 pub record Passes (e : Event) (s : Bench) : Type 0 where
@@ -37,7 +39,7 @@ pub ninth-other : (e : Event) (s : Bench) → isCrash e ≡ false → passes9 e 
 unfolding passes9
 ninth-other e s c = or-mk-l _ _ (ap not c)
 
-pub ninth-crash : (e : Event) (s : Bench) → isCrash e ≡ true → passes9 e s ≡ below (sizeOf (s .crashed)) (s .t)
+pub ninth-crash : (e : Event) (s : Bench) → isCrash e ≡ true → passes9 e s ≡ less (sizeOf (s .crashed)) (s .t)
 unfolding passes9
 ninth-crash e s c = or-off-l _ _ (ap not c)
 
@@ -77,26 +79,30 @@ module _ (e : Event) (s : Bench) where
 -- ---- any bytes: 2 of a damaged bench, else the decoder's number, else the event's
 module _ (s : Bench) (l : List ℕ) where
   pub refusal-damaged : soundOf s ≡ false → refusal s l ≡ 2
-  unfolding refusal
+  unfolding refusal refusalBy decodeAs
   refusal-damaged d = check-off _ _ _ d
 
   pub refusal-unread : soundOf s ≡ true → (r : Refusal) → decodeOf (s .n) (s .t) l ≡ Refused r
       → refusal s l ≡ r .number
-  unfolding refusal refusesDecoded
+  unfolding refusal refusesDecoded refusalBy decodeAs
   refusal-unread h r d = check-on _ _ _ h ∙ rw d
 
   pub refusal-event : soundOf s ≡ true → (e : Event) → decodeOf (s .n) (s .t) l ≡ Got e → refusal s l ≡ refuses e s
-  unfolding refusal refusesDecoded
+  unfolding refusal refusesDecoded refusalBy decodeAs
   refusal-event h e d = check-on _ _ _ h ∙ rw d
 
   -- ---- a refused record leaves the bench as it is
   pub refused-keeps : refusal s l ≢ 0 → afterRecord s l ≡ s
-  unfolding afterRecord
-  refused-keeps h = choose-off _ _ _ (same-off _ _ h)
+  unfolding afterRecord stepOf acceptedOne afterEvents refusal
+  refused-keeps h = ap (afterEvents s) (select-off _ _ _ (same-off _ _ h))
 
   pub accepted-effect : refusal s l ≡ 0 → afterRecord s l ≡ effectOf s l
-  unfolding afterRecord
-  accepted-effect h = choose-on _ _ _ (same-mk _ _ h)
+  unfolding afterRecord stepOf acceptedOne afterEvents eventIn refusal effectOf effectBy effectDecoded
+  accepted-effect h = ap (afterEvents s) (select-on _ _ _ (same-mk _ _ h)) ∙ go (decodeAs v2 (s .n) (s .t) l)
+    where
+      go : (d : Decoded) → afterEvents s (eventIn d) ≡ effectDecoded d s
+      go (Got e) = refl
+      go (Refused r) = refl
 
 -- ---- an accepted record: the bench is sound, the bytes are those of an event in range that is let
 -- through, and its effect is taken
@@ -110,7 +116,7 @@ pub record Accepts (s : Bench) (l : List ℕ) : Type 0 where
   pub effects : afterRecord s l ≡ effect event s
 
 pub accepted : (s : Bench) (l : List ℕ) → refusal s l ≡ 0 → Accepts s l
-unfolding refusal refusesDecoded effectOf effectDecoded
+unfolding refusal refusesDecoded effectOf effectDecoded refusalBy decodeAs effectBy
 accepted s l z = go (decodeOf (s .n) (s .t) l) refl
   where
     first : (soundOf s ≡ true) × (refusesDecoded (decodeOf (s .n) (s .t) l) s ≡ 0)

@@ -10,9 +10,9 @@ use native.Mathlib.Omega.{arith}
 use lib.ListN.{getD, set, replicate}
 use lib.Pow.{pow-pos}
 use Rattle.sets.specs.Laws.{insert-lt, remove-lt}
-use Rattle.sets.specs.Truth.{_&&_, below, oneTo}
-use Rattle.sets.specs.TruthLaws.{Is, on, off, is, clash, choose-on, choose-off, and-l, and-r, and-mk}
-use Rattle.sets.specs.TruthLaws.{and-on-r, below-on, below-mk, one-low, one-high, one-mk, eq-or}
+use Rattle.sets.specs.Truth.{_and_, less, oneTo}
+use Rattle.sets.specs.TruthLaws.{Is, on, off, is, clash, select-on, select-off, and-first, and-second, and-mk}
+use Rattle.sets.specs.TruthLaws.{and-on-r, less-on, less-mk, one-low, one-high, one-mk, eq-or}
 use Rattle.global_data.specs.declared.GlobalData.{GlobalData}
 use Rattle.global_data.specs.GlobalData.{noData, nothingOf}
 use Rattle.process.specs.declared.Process.{Process}
@@ -40,8 +40,8 @@ module _ {A : Type 0} where
       → p (getD l i d) ≡ true
   unfolding everyIn
   every-on p d [] h e i = h
-  every-on p d (x ∷ l) h e zero = and-l (p x) (everyIn p l) e
-  every-on p d (x ∷ l) h e (suc i) = every-on p d l h (and-r (p x) (everyIn p l) e) i
+  every-on p d (x ∷ l) h e zero = and-first (p x) (everyIn p l) e
+  every-on p d (x ∷ l) h e (suc i) = every-on p d l h (and-second (p x) (everyIn p l) e) i
 
   pub every-mk : (p : A → Bool) (d : A) (l : List A) → ((i : ℕ) → p (getD l i d) ≡ true) → everyIn p l ≡ true
   unfolding everyIn
@@ -63,16 +63,16 @@ module _ {A : Type 0} where
   each-replicate P d (suc n) v h w (suc i) = each-replicate P d n v h w i
 
 -- five tests, of which the fourth is made last
-swap-off : (a b c d e : Bool) → (a && (b && (c && e))) ≡ false → (a && (b && (c && (d && e)))) ≡ false
-unfolding _&&_
+swap-off : (a b c d e : Bool) → (a and (b and (c and e))) ≡ false → (a and (b and (c and (d and e)))) ≡ false
+unfolding _and_
 swap-off true true true true e p = p
 swap-off true true true false e p = refl
 swap-off true true false d e p = refl
 swap-off true false c d e p = refl
 swap-off false b c d e p = refl
 
-swap-on : (a b c d e : Bool) → (a && (b && (c && e))) ≡ true → (a && (b && (c && (d && e)))) ≡ d
-unfolding _&&_
+swap-on : (a b c d e : Bool) → (a and (b and (c and e))) ≡ true → (a and (b and (c and (d and e)))) ≡ d
+unfolding _and_
 swap-on true true true d e p = and-on-r d e p
 swap-on true true false d e p = clash false p refl
 swap-on true false c d e p = clash false p refl
@@ -82,29 +82,29 @@ swap-on false b c d e p = clash false p refl
 module _ (n t : ℕ) where
   pub open-some : opens n t ≡ true → 0 < n
   unfolding opens
-  open-some e = one-low 16 n (and-l (oneTo 16 n) (below t n) e)
+  open-some e = one-low 16 n (and-first (oneTo 16 n) (less t n) e)
 
   pub open-few : opens n t ≡ true → n < 17
   unfolding opens
-  open-few e = omega (arith, one-high 16 n (and-l (oneTo 16 n) (below t n) e))
+  open-few e = omega (arith, one-high 16 n (and-first (oneTo 16 n) (less t n) e))
 
   pub open-limit : opens n t ≡ true → t < n
   unfolding opens
-  open-limit e = below-on t n (and-r (oneTo 16 n) (below t n) e)
+  open-limit e = less-on t n (and-second (oneTo 16 n) (less t n) e)
 
   pub open-mk : 0 < n → n < 17 → t < n → opens n t ≡ true
   unfolding opens
-  open-mk l h m = and-mk (oneTo 16 n) (below t n) (one-mk 16 n l (omega arith)) (below-mk t n m)
+  open-mk l h m = and-mk (oneTo 16 n) (less t n) (one-mk 16 n l (omega arith)) (less-mk t n m)
 
 -- ---- soundness in two parts: the rows of `sent`, and all else
 unfoldable pub soundParts : ℕ → ℕ → ℕ → List Process → List ℕ → Bool
 soundParts n t crashed processes words =
-    opens n t && (within n crashed && (everyIn (soundProcess n t) processes && everyIn (within n) words))
+    opens n t and (within n crashed and (everyIn (soundProcess n t) processes and everyIn (within n) words))
 
 pub parts-small : (n t crashed : ℕ) (processes : List Process) (words : List ℕ)
     → soundParts n t crashed processes words ≡ true → n ≤ 16
 unfolding soundParts
-parts-small n t crashed processes words e = omega (arith, open-few n t (and-l _ _ e))
+parts-small n t crashed processes words e = omega (arith, open-few n t (and-first _ _ e))
 
 module _ (b : Bench) where
   abbrev parts : Bool
@@ -131,11 +131,11 @@ pub record Bounds (s : Bench) : Type 0 where
 -- a set within n
 pub within-on : (n m : ℕ) → within n m ≡ true → m < 2 ^ n
 unfolding within
-within-on n m e = below-on m (2 ^ n) e
+within-on n m e = less-on m (2 ^ n) e
 
 pub within-mk : (n m : ℕ) → m < 2 ^ n → within n m ≡ true
 unfolding within
-within-mk n m h = below-mk m (2 ^ n) h
+within-mk n m h = less-mk m (2 ^ n) h
 
 none-low : (n : ℕ) → 0 < 2 ^ n
 none-low n = pow-pos n
@@ -143,26 +143,26 @@ none-low n = pow-pos n
 pub process-on : (n t : ℕ) (p : Process) → soundProcess n t p ≡ true → Within n t p
 unfolding soundProcess soundData
 process-on n t p e =
-    let e1 = and-r _ _ e in
-    let e2 = and-r _ _ e1 in
-    let e3 = and-r _ _ e2 in
-    let e4 = and-r _ _ e3 in
-    let e5 = and-r _ _ e4 in
+    let e1 = and-second _ _ e in
+    let e2 = and-second _ _ e1 in
+    let e3 = and-second _ _ e2 in
+    let e4 = and-second _ _ e3 in
+    let e5 = and-second _ _ e4 in
     record {
-      round = let h = below-on _ _ (and-l _ _ e) in omega arith;
-      previous = within-on _ _ (and-l _ _ e1);
-      current = within-on _ _ (and-l _ _ e2);
-      suspected = within-on _ _ (and-l _ _ e3);
-      outbox = within-on _ _ (and-l _ _ e4);
-      estimate = within-on _ _ (and-l _ _ e5);
+      round = let h = less-on _ _ (and-first _ _ e) in omega arith;
+      previous = within-on _ _ (and-first _ _ e1);
+      current = within-on _ _ (and-first _ _ e2);
+      suspected = within-on _ _ (and-first _ _ e3);
+      outbox = within-on _ _ (and-first _ _ e4);
+      estimate = within-on _ _ (and-first _ _ e5);
       received =
-          λ i. within-on _ _ (every-on (within n) 0 (p .received) (within-mk n 0 (none-low n)) (and-r _ _ e5) i);
+          λ i. within-on _ _ (every-on (within n) 0 (p .received) (within-mk n 0 (none-low n)) (and-second _ _ e5) i);
     }
 
 pub process-mk : (n t : ℕ) (p : Process) → Within n t p → soundProcess n t p ≡ true
 unfolding soundProcess soundData
 process-mk n t p b =
-    and-mk _ _ (below-mk _ _ (omega (arith, b .round)))
+    and-mk _ _ (less-mk _ _ (omega (arith, b .round)))
     (and-mk _ _ (within-mk _ _ (b .previous))
     (and-mk _ _ (within-mk _ _ (b .current))
     (and-mk _ _ (within-mk _ _ (b .suspected))
@@ -187,25 +187,25 @@ no-process n t =
 pub sound-on : (s : Bench) → soundOf s ≡ true → Bounds s
 unfolding soundOf soundData
 sound-on s e =
-    let o = and-l _ _ e in
-    let e1 = and-r _ _ e in
-    let e2 = and-r _ _ e1 in
-    let e3 = and-r _ _ e2 in
+    let o = and-first _ _ e in
+    let e1 = and-second _ _ e in
+    let e2 = and-second _ _ e1 in
+    let e3 = and-second _ _ e2 in
     record {
       some = open-some _ _ o;
       few = open-few _ _ o;
       limit = open-limit _ _ o;
-      crashed = within-on _ _ (and-l _ _ e1);
+      crashed = within-on _ _ (and-first _ _ e1);
       process =
           λ a. process-on _ _ _
           (every-on (soundProcess (s .n) (s .t)) noProcess (s .processes) (process-mk _ _ _ (no-process (s .n) (s .t)))
-          (and-l _ _ e2) a);
+          (and-first _ _ e2) a);
       sent =
           λ i. within-on _ _
-          (every-on (soundData (s .n)) noData (s .sent) (within-mk _ 0 (none-low (s .n))) (and-l _ _ e3) i);
+          (every-on (soundData (s .n)) noData (s .sent) (within-mk _ 0 (none-low (s .n))) (and-first _ _ e3) i);
       transit =
           λ i. within-on _ _
-          (every-on (within (s .n)) 0 (s .in_transit) (within-mk _ 0 (none-low (s .n))) (and-r _ _ e3) i);
+          (every-on (within (s .n)) 0 (s .in_transit) (within-mk _ 0 (none-low (s .n))) (and-second _ _ e3) i);
     }
 
 pub sound-mk : (s : Bench) → Bounds s → soundOf s ≡ true
@@ -300,8 +300,8 @@ unfolding closesAs
 closes-low s b a p h = go (is (hasDecided p))
   where
     go : Is (hasDecided p) → Bounds (closesAs s a p)
-    go (on e) = rw (choose-on (hasDecided p) _ (opensRound s a p) e) (with-process s b a p h)
-    go (off e) = rw (choose-off (hasDecided p) (withProcess s a p) _ e) (opens-low s b a p h)
+    go (on e) = rw (select-on (hasDecided p) _ (opensRound s a p) e) (with-process s b a p h)
+    go (off e) = rw (select-off (hasDecided p) (withProcess s a p) _ e) (opens-low s b a p h)
 
 rows-low : (s : Bench) → Bounds s → (r y : ℕ) → rowsAt s r y .present < 2 ^ s .n
 unfolding rowsAt
@@ -336,8 +336,8 @@ unfolding closesAs opensRound withProcess withSent
 closes-sizes s a p = go (is (hasDecided p))
   where
     go : Is (hasDecided p) → SameSizes s (closesAs s a p)
-    go (on e) = rw (choose-on (hasDecided p) _ (opensRound s a p) e) (record { n = refl; t = refl })
-    go (off e) = rw (choose-off (hasDecided p) (withProcess s a p) _ e) (record { n = refl; t = refl })
+    go (on e) = rw (select-on (hasDecided p) _ (opensRound s a p) e) (record { n = refl; t = refl })
+    go (off e) = rw (select-off (hasDecided p) (withProcess s a p) _ e) (record { n = refl; t = refl })
 
 pub effect-sizes : (e : Event) (s : Bench) → SameSizes s (effect e s)
 unfolding effect opensRound sends arrives withProcess withSent withTransit withCrashed

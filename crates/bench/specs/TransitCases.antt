@@ -4,7 +4,7 @@ use mathlib.Core.Path.{_≡_, refl}
 use mathlib.Core.List.{[], _∷_}
 use Rattle.sets.specs.Lists.{joined}
 use Rattle.sets.specs.Set.{has}
-use Rattle.sets.specs.Truth.{same, choose}
+use Rattle.sets.specs.Truth.{same, select}
 use Rattle.bench.specs.declared.Bench.{Bench}
 use Rattle.bench.specs.State.{transitAt, withTransit, openedOf}
 use Rattle.bench.specs.TransitList.{messageBytes, transitBytes}
@@ -23,5 +23,5 @@ several =
 pub several-listed : transitBytes several
     ≡ bytesOf
     (listed 3 2 0 ∷ listed 1 3 1 ∷ listed 2 1 1 ∷ listed 2 3 1 ∷ listed 1 2 2 ∷ listed 2 1 3 ∷ [])
-unfolding several listed openedOf withTransit transitAt has same choose joined messageBytes transitBytes bytesOf
+unfolding several listed openedOf withTransit transitAt has same select joined messageBytes transitBytes bytesOf
 several-listed = refl

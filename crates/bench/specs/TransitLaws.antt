@@ -10,11 +10,11 @@ use native.Mathlib.Numerals.{add-one}
 use native.Mathlib.Omega.{arith}
 use lib.ListN.{length, getD, set, drop, length-append}
 use lib.Seq as seq
-use Rattle.sets.specs.Truth.{bit, choose}
-use Rattle.sets.specs.Lists.{count, joined}
+use Rattle.sets.specs.Truth.{bit, select}
+use Rattle.sets.specs.Lists.{countTo, joined}
 use Rattle.sets.specs.Laws.{size-count}
 use Rattle.sets.specs.Set.{has, sizeOf}
-use Rattle.sets.specs.TruthLaws.{choose-on, choose-off, eq-or}
+use Rattle.sets.specs.TruthLaws.{select-on, select-off, eq-or}
 use Rattle.bench.specs.declared.Bench.{Bench}
 use Rattle.bench.specs.State.{transitAt}
 use Rattle.bench.specs.TransitList.{messageBytes, transitBytes}
@@ -22,11 +22,11 @@ use Rattle.bench.specs.TransitList.{messageBytes, transitBytes}
 -- ---- the list by its parts: m is a set in transit, `words` all of them
 pub message-in : (m r a b : ℕ) → has m b ≡ true → messageBytes m r a b ≡ (a + 1) ∷ (b + 1) ∷ r ∷ []
 unfolding messageBytes
-message-in m r a b e = choose-on (has m b) ((a + 1) ∷ (b + 1) ∷ r ∷ []) [] e
+message-in m r a b e = select-on (has m b) ((a + 1) ∷ (b + 1) ∷ r ∷ []) [] e
 
 pub message-none : (m r a b : ℕ) → has m b ≡ false → messageBytes m r a b ≡ []
 unfolding messageBytes
-message-none m r a b e = choose-off (has m b) ((a + 1) ∷ (b + 1) ∷ r ∷ []) [] e
+message-none m r a b e = select-off (has m b) ((a + 1) ∷ (b + 1) ∷ r ∷ []) [] e
 
 unfoldable pub senderBytes : List ℕ → ℕ → ℕ → ℕ → List ℕ
 senderBytes words n r a = joined n (messageBytes (getD words (a * 17 + r) 0) r a)
@@ -107,13 +107,13 @@ module _ (f : ℕ → List ℕ) where
   sum-more c s k p q = rw add-one (omega (arith, joined-length k))
 
 -- ---- three bytes for each member
-bit-length : (b : Bool) (x y z : ℕ) → length (choose b (x ∷ y ∷ z ∷ []) []) ≡ bit b * 3
-unfolding choose bit
+bit-length : (b : Bool) (x y z : ℕ) → length (select b (x ∷ y ∷ z ∷ []) []) ≡ bit b * 3
+unfolding select bit
 bit-length true x y z = refl
 bit-length false x y z = refl
 
-members-length : (m r a n : ℕ) → length (joined n (messageBytes m r a)) ≡ count n (has m) * 3
-unfolding messageBytes joined count
+members-length : (m r a n : ℕ) → length (joined n (messageBytes m r a)) ≡ countTo n (has m) * 3
+unfolding messageBytes joined countTo
 members-length m r a zero = refl
 members-length m r a (suc n) =
     omega (arith, joined-length (messageBytes m r a) n, bit-length (has m n) (a + 1) (n + 1) r, members-length m r a n)

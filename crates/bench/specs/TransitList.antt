@@ -6,7 +6,7 @@ use Prim.Native.Nat.{ℕ, _+_, _/_}
 use lib.ListN.{length, drop}
 use Rattle.sets.specs.Lists.{joined}
 use Rattle.sets.specs.Set.{has}
-use Rattle.sets.specs.Truth.{same, below, choose, check}
+use Rattle.sets.specs.Truth.{same, less, select, check}
 use Rattle.bench.specs.declared.Bench.{Bench}
 use Rattle.bench.specs.declared.Listed.{Listed}
 use Rattle.bench.specs.declared.Listed.the-variants.{Count, Refused as RefusedList}
@@ -16,19 +16,19 @@ use Rattle.bench.specs.Calls.{refused}
 
 -- message r of a to b, where b is in the set m of those to whom it is on its way
 unfoldable pub messageBytes : ℕ → ℕ → ℕ → ℕ → List ℕ
-messageBytes m r a b = choose (has m b) ((a + 1) ∷ (b + 1) ∷ r ∷ []) []
+messageBytes m r a b = select (has m b) ((a + 1) ∷ (b + 1) ∷ r ∷ []) []
 
 unfoldable pub transitBytes : Bench → List ℕ
 transitBytes s = joined (s .t + 2) (λ r. joined (s .n) (λ a. joined (s .n) (messageBytes (transitAt s a r) r a)))
 
 -- 2, 10, or 0
 unfoldable pub listRefusal : Bench → List ℕ → ℕ
-listRefusal s out = check (soundOf s) 2 (check (not (below (length out) (length (transitBytes s)))) 10 0)
+listRefusal s out = check (soundOf s) 2 (check (not (less (length out) (length (transitBytes s)))) 10 0)
 
 unfoldable pub listOf : Bench → List ℕ → Listed
 listOf s out =
     let r = listRefusal s out in
-    choose (same r 0) (Count (length (transitBytes s) / 3)) (RefusedList (refused r))
+    select (same r 0) (Count (length (transitBytes s) / 3)) (RefusedList (refused r))
 
 unfoldable pub listedIn : Bench → List ℕ → List ℕ
-listedIn s out = choose (same (listRefusal s out) 0) (transitBytes s ++ drop (length (transitBytes s)) out) out
+listedIn s out = select (same (listRefusal s out) 0) (transitBytes s ++ drop (length (transitBytes s)) out) out

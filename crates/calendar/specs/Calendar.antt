@@ -4,8 +4,8 @@ use mathlib.Core.Bool.{Bool, not}
 use mathlib.Core.List.{List, [], _∷_}
 use Prim.Native.Nat.{ℕ, _+_, _-_, _*_, _/_, _%_}
 use lib.ListN.{length, getD, replicate}
-use Rattle.sets.specs.Lists.{each, joined, every, some, count}
-use Rattle.sets.specs.Truth.{_&&_, same, below, oneTo, choose, check}
+use Rattle.sets.specs.Lists.{each, joined, every, someTo, countTo}
+use Rattle.sets.specs.Truth.{_and_, same, less, oneTo, select, check}
 use Rattle.calendar.specs.declared.Period.{Period}
 use Rattle.calendar.specs.declared.Numbering.{Numbering}
 use Rattle.calendar.specs.declared.WeekAnswer.{WeekAnswer}
@@ -40,29 +40,29 @@ closed = 2
 
 -- a site 1 to 16, a kind 1 or 2, first day not after last, last bytes zero
 unfoldable pub wellFormed : Period → Bool
-wellFormed p = oneTo 16 (p .site) && (oneTo 2 (p .kind) && (not (below (p .last) (p .first)) && same (p .rest) 0))
+wellFormed p = oneTo 16 (p .site) and (oneTo 2 (p .kind) and (not (less (p .last) (p .first)) and same (p .rest) 0))
 
 -- ---- days
 
 -- a record of its own: of this kind, for this site
 unfoldable pub ownOf : ℕ → ℕ → Period → Bool
-ownOf kind site p = same (p .kind) kind && same (p .site) site
+ownOf kind site p = same (p .kind) kind and same (p .site) site
 
 -- the day lies in the record: first and last day both count
 unfoldable pub lies : ℕ → Period → Bool
-lies day p = not (below day (p .first)) && not (below (p .last) day)
+lies day p = not (less day (p .first)) and not (less (p .last) day)
 
 -- both: the day lies in a record of its own
 abbrev pub hasDay : ℕ → ℕ → ℕ → Period → Bool
-hasDay kind site day p = ownOf kind site p && lies day p
+hasDay kind site day p = ownOf kind site p and lies day p
 
 -- some record of the calendar is such a one
 unfoldable pub liesIn : List ℕ → ℕ → ℕ → ℕ → Bool
-liesIn calendar kind site day = some (periodsIn calendar) (λ j. hasDay kind site day (periodAt calendar j))
+liesIn calendar kind site day = someTo (periodsIn calendar) (λ j. hasDay kind site day (periodAt calendar j))
 
 -- open on a day: in a term record of its own and in no closed record of its own
 unfoldable pub openOn : List ℕ → ℕ → ℕ → Bool
-openOn calendar site day = liesIn calendar term site day && not (liesIn calendar closed site day)
+openOn calendar site day = liesIn calendar term site day and not (liesIn calendar closed site day)
 
 -- day i of a week, where Monday is 0: day 0 is a Monday, and week w is days 7 w to 7 w + 6. No bound of 16 bits.
 abbrev pub dayOf : ℕ → ℕ → ℕ
@@ -70,21 +70,21 @@ dayOf week i = 7 * week + i
 
 -- takes part in a week: open on at least one of Monday to Friday
 unfoldable pub takesPartIn : List ℕ → ℕ → ℕ → Bool
-takesPartIn calendar week site = some 5 (λ i. openOn calendar site (dayOf week i))
+takesPartIn calendar week site = someTo 5 (λ i. openOn calendar site (dayOf week i))
 
 -- ---- the numbering of those sites of 1 to 16 that take part
 
 -- those of the sites 1 to s, in rising number
 unfoldable pub sitesTo : (ℕ → Bool) → ℕ → List ℕ
-sitesTo takes s = joined s (λ i. choose (takes (i + 1)) ((i + 1) ∷ []) [])
+sitesTo takes s = joined s (λ i. select (takes (i + 1)) ((i + 1) ∷ []) [])
 
 -- how many they are
 unfoldable pub howMany : (ℕ → Bool) → ℕ → ℕ
-howMany takes s = count s (λ i. takes (i + 1))
+howMany takes s = countTo s (λ i. takes (i + 1))
 
 -- the process of a site: how many there are up to it, itself included; 0 for none
 unfoldable pub processOf : (ℕ → Bool) → ℕ → ℕ
-processOf takes site = choose (takes site) (howMany takes site) 0
+processOf takes site = select (takes site) (howMany takes site) 0
 
 -- the site of a process, by the list of all sixteen; 0 for none
 unfoldable pub siteOf : (ℕ → Bool) → ℕ → ℕ
@@ -114,7 +114,7 @@ allWellFormed calendar = every (periodsIn calendar) (λ j. wellFormed (periodAt 
 
 -- some site takes part
 abbrev pub somebodyIn : List ℕ → ℕ → Bool
-somebodyIn calendar week = some 16 (λ i. takesPartIn calendar week (i + 1))
+somebodyIn calendar week = someTo 16 (λ i. takesPartIn calendar week (i + 1))
 
 -- a record at fault is 13; then a week in which nobody takes part is 14
 unfoldable pub weekRefusal : List ℕ → ℕ → ℕ
@@ -132,6 +132,6 @@ answeredBy numbering = record { answer = 0; numbering = numbering }
 
 unfoldable pub weekOf : List ℕ → ℕ → WeekAnswer
 weekOf calendar week =
-    choose (same (weekRefusal calendar week) 0)
+    select (same (weekRefusal calendar week) 0)
     (answeredBy (numberingOf (takesPartIn calendar week)))
     (refusedBy (weekRefusal calendar week))

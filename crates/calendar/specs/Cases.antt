@@ -5,23 +5,23 @@ use mathlib.Core.Path.{_≡_, refl}
 use mathlib.Core.List.{List, [], _∷_, _++_, map}
 use Prim.Native.Nat.{ℕ, _+_, _-_, _/_, _%_}
 use lib.ListN.{length, replicate}
-use Rattle.sets.specs.Lists.{each, joined, every, some, count}
-use Rattle.sets.specs.Truth.{_&&_, same, below, oneTo, bit, choose, check}
+use Rattle.sets.specs.Lists.{each, joined, every, someTo, countTo}
+use Rattle.sets.specs.Truth.{_and_, same, less, oneTo, bit, select, check}
 use Rattle.calendar.specs.declared.WeekAnswer.{WeekAnswer}
 use Rattle.calendar.specs.Calendar.{pairOf, periodsIn, periodAt, wellFormed, ownOf, lies, liesIn, openOn}
 use Rattle.calendar.specs.Calendar.{takesPartIn, sitesTo, howMany, processOf, siteOf, numberingOf, noNumbering}
 use Rattle.calendar.specs.Calendar.{weekRefusal, refusedBy, answeredBy, weekOf}
 
 -- ---- calendars
-abbrev entry : ℕ → ℕ → ℕ → ℕ → List ℕ
-entry kind site first last =
+abbrev periodBytes : ℕ → ℕ → ℕ → ℕ → List ℕ
+periodBytes kind site first last =
     site ∷ kind ∷ first % 256 ∷ first / 256 ∷ last % 256 ∷ last / 256 ∷ 0 ∷ 0 ∷ []
 
 abbrev termOf : ℕ → ℕ → ℕ → List ℕ
-termOf = entry 1
+termOf = periodBytes 1
 
 abbrev closedOf : ℕ → ℕ → ℕ → List ℕ
-closedOf = entry 2
+closedOf = periodBytes 2
 
 -- Wednesday of week 1, for site 3
 abbrev wednesday : List ℕ
@@ -107,18 +107,18 @@ table =
     -- 13: site, kind, first day after last, last bytes
     ∷ case (fortnight ++ termOf 0 0 13) 0 (refused 13)
     ∷ case (fortnight ++ termOf 17 0 13) 0 (refused 13)
-    ∷ case (fortnight ++ entry 0 3 0 13) 0 (refused 13)
-    ∷ case (fortnight ++ entry 3 3 0 13) 0 (refused 13)
+    ∷ case (fortnight ++ periodBytes 0 3 0 13) 0 (refused 13)
+    ∷ case (fortnight ++ periodBytes 3 3 0 13) 0 (refused 13)
     ∷ case (fortnight ++ termOf 3 14 13) 0 (refused 13)
     ∷ case (fortnight ++ (3 ∷ 1 ∷ 0 ∷ 0 ∷ 13 ∷ 0 ∷ 1 ∷ 0 ∷ [])) 0 (refused 13)
     ∷ case (fortnight ++ (3 ∷ 1 ∷ 0 ∷ 0 ∷ 13 ∷ 0 ∷ 0 ∷ 1 ∷ [])) 0 (refused 13)
     -- 13 before 14: the first record is at fault, and nobody takes part
-    ∷ case (entry 3 3 0 13 ++ wednesday) 0 (refused 13)
+    ∷ case (periodBytes 3 3 0 13 ++ wednesday) 0 (refused 13)
     ∷ []
 
 -- what the definition gives for each, and what is written there
 pub weeks : map (λ c. weekOf (c .calendar) (c .week)) table ≡ map (λ c. c .answer) table
 unfolding weekOf weekRefusal refusedBy answeredBy numberingOf noNumbering processOf siteOf sitesTo howMany takesPartIn
-    openOn liesIn lies ownOf wellFormed periodAt periodsIn pairOf each joined every some count _&&_ same below oneTo
-    bit choose check
+    openOn liesIn lies ownOf wellFormed periodAt periodsIn pairOf each joined every someTo countTo _and_ same less
+    oneTo bit select check
 weeks = refl

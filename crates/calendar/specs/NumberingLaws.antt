@@ -12,31 +12,31 @@ use lib.ListN.{List·getD-append, List·getD-eq-default}
 use lib.Seq.{getD-at, getD-append-add, getD-drop, drop-cons, set-at, set-getD}
 use Rattle.sets.specs.CountLaws.{count-cong}
 use Rattle.sets.specs.EachLaws.{length-each, each-step, each-cong, each-getD}
-use Rattle.sets.specs.Lists.{each, joined, count}
+use Rattle.sets.specs.Lists.{each, joined, countTo}
 use Rattle.sets.specs.Set.{has}
-use Rattle.sets.specs.Truth.{bit, choose}
-use Rattle.sets.specs.TruthLaws.{Is, is, on, off, choose-on, choose-off, le-or, eq-or}
+use Rattle.sets.specs.Truth.{bit, select}
+use Rattle.sets.specs.TruthLaws.{Is, is, on, off, select-on, select-off, le-or, eq-or}
 use Rattle.calendar.specs.Calendar.{sitesTo, howMany, processOf, siteOf, numberingOf}
 
 module _ (takes : ℕ → Bool) where
   pub sites-on : (m : ℕ) → takes (m + 1) ≡ true → sitesTo takes (suc m) ≡ sitesTo takes m ++ ((m + 1) ∷ [])
   unfolding sitesTo joined
-  sites-on m e = ap (λ l. sitesTo takes m ++ l) (choose-on (takes (m + 1)) ((m + 1) ∷ []) [] e)
+  sites-on m e = ap (λ l. sitesTo takes m ++ l) (select-on (takes (m + 1)) ((m + 1) ∷ []) [] e)
 
   pub sites-off : (m : ℕ) → takes (m + 1) ≡ false → sitesTo takes (suc m) ≡ sitesTo takes m
   unfolding sitesTo joined
-  sites-off m e = ap (λ l. sitesTo takes m ++ l) (choose-off (takes (m + 1)) ((m + 1) ∷ []) [] e) ∙ append-nil _
+  sites-off m e = ap (λ l. sitesTo takes m ++ l) (select-off (takes (m + 1)) ((m + 1) ∷ []) [] e) ∙ append-nil _
 
   pub many-zero : howMany takes 0 ≡ 0
-  unfolding howMany count
+  unfolding howMany countTo
   many-zero = refl
 
   pub many-on : (m : ℕ) → takes (m + 1) ≡ true → howMany takes (suc m) ≡ suc (howMany takes m)
-  unfolding howMany count bit
+  unfolding howMany countTo bit
   many-on m e = omega (arith, ap bit e)
 
   pub many-off : (m : ℕ) → takes (m + 1) ≡ false → howMany takes (suc m) ≡ howMany takes m
-  unfolding howMany count bit
+  unfolding howMany countTo bit
   many-off m e = omega (arith, ap bit e)
 
   -- one site more is at most one more, and none less
@@ -179,7 +179,7 @@ module _ (takes : ℕ → Bool) where
       → set (numbersTo m l) m (howMany takes (m + 1)) ≡ numbersTo (m + 1) l
   unfolding processOf
   numbers-on m l e h =
-      ap (set (numbersTo m l) m) (sym (choose-on (takes (m + 1)) (howMany takes (m + 1)) 0 e))
+      ap (set (numbersTo m l) m) (sym (select-on (takes (m + 1)) (howMany takes (m + 1)) 0 e))
       ∙ each-step 0 m (λ i. processOf takes (i + 1)) l h
 
   pub numbers-off : (m : ℕ) (l : List ℕ) → takes (m + 1) ≡ false → m < length l → getD l m 0 ≡ 0
@@ -187,7 +187,7 @@ module _ (takes : ℕ → Bool) where
   unfolding processOf
   numbers-off m l e h z =
       sym (set-getD (numbersTo m l) m 0)
-      ∙ ap (set (numbersTo m l) m) (there ∙ sym (choose-off (takes (m + 1)) (howMany takes (m + 1)) 0 e))
+      ∙ ap (set (numbersTo m l) m) (there ∙ sym (select-off (takes (m + 1)) (howMany takes (m + 1)) 0 e))
       ∙ each-step 0 m (λ i. processOf takes (i + 1)) l h
     where
       there : getD (numbersTo m l) m 0 ≡ 0
@@ -201,7 +201,7 @@ module _ (t u : ℕ → Bool) where
   unfolding sitesTo joined
   sites-cong zero h = refl
   sites-cong (suc m) h =
-      ap₂ _++_ (sites-cong m (λ i l. h i (omega arith))) (ap (λ b. choose b ((m + 1) ∷ []) []) (h m (omega arith)))
+      ap₂ _++_ (sites-cong m (λ i l. h i (omega arith))) (ap (λ b. select b ((m + 1) ∷ []) []) (h m (omega arith)))
 
   pub many-cong : (m : ℕ) → ((i : ℕ) → i < m → t (i + 1) ≡ u (i + 1)) → howMany t m ≡ howMany u m
   unfolding howMany
@@ -213,7 +213,7 @@ module _ (t u : ℕ → Bool) where
     n = many-cong 16 h k;
     «process_of» =
         each-cong 16 _ _
-        (λ i l. ap₂ (λ b n. choose b n 0) (h i l) (many-cong (i + 1) (λ j d. h j (omega arith)))) k;
+        (λ i l. ap₂ (λ b n. select b n 0) (h i l) (many-cong (i + 1) (λ j d. h j (omega arith)))) k;
     «site_of» = each 16 (λ i. getD (sites-cong 16 h k) (i + 1 - 1) 0);
   }
 

@@ -10,9 +10,9 @@ use native.Mathlib.Omega.{arith}
 use lib.ListN.{length, getD, length-append, List·getD-append}
 use lib.Seq.{getD-append-add}
 use Rattle.sets.specs.EveryLaws.{every-on, every-mk, some-on, some-mk, some-cong, some-none}
-use Rattle.sets.specs.Truth.{_&&_, same}
-use Rattle.sets.specs.TruthLaws.{both-ways, off-by, and-l, and-r, and-mk, and-off-l, same-on, same-mk}
-use Rattle.sets.specs.TruthLaws.{below-not, not-on, le-or}
+use Rattle.sets.specs.Truth.{_and_, same}
+use Rattle.sets.specs.TruthLaws.{by-both, off-by, and-first, and-second, and-mk, and-off-l, same-on, same-mk}
+use Rattle.sets.specs.TruthLaws.{less-not, not-on, le-or}
 use Rattle.calendar.specs.declared.Period.{Period}
 use Rattle.calendar.specs.Calendar.{pairOf, periodsIn, periodAt, wellFormed, ownOf, lies, liesIn}
 use Rattle.calendar.specs.Calendar.{openOn, dayOf, takesPartIn, wholeRecords, allWellFormed, weekRefusal}
@@ -113,7 +113,7 @@ module _ (calendar : List ℕ) where
   lies-on kind site day e =
       let w = some-on _ _ e in
       let there : In (periodAt calendar (w .0)) calendar = record { place = w .0; inside = w .1; found = refl } in
-      (periodAt calendar (w .0), there, and-l _ _ (w .2), and-r _ _ (w .2))
+      (periodAt calendar (w .0), there, and-first _ _ (w .2), and-second _ _ (w .2))
 
   pub lies-mk : (kind site day : ℕ) (p : Period) → In p calendar → ownOf kind site p ≡ true → lies day p ≡ true
       → liesIn calendar kind site day ≡ true
@@ -127,7 +127,7 @@ pub part-cong : (a b : List ℕ) (week site : ℕ)
     → ((kind i : ℕ) → i < 5 → liesIn a kind site (dayOf week i) ≡ liesIn b kind site (dayOf week i))
     → takesPartIn a week site ≡ takesPartIn b week site
 unfolding takesPartIn openOn
-part-cong a b week site h = some-cong 5 _ _ (λ i l. ap₂ (λ s c. s && not c) (h 1 i l) (h 2 i l))
+part-cong a b week site h = some-cong 5 _ _ (λ i l. ap₂ (λ s c. s and not c) (h 1 i l) (h 2 i l))
 
 -- the answer, by its three parts
 pub week-cong : (a b : List ℕ) (week : ℕ) → wholeRecords a ≡ wholeRecords b
@@ -145,10 +145,10 @@ pub same-records : (a b : List ℕ) (week : ℕ) → length a % 8 ≡ length b %
     → ((p : Period) → In p a → In p b) → ((p : Period) → In p b → In p a) → weekOf a week ≡ weekOf b week
 same-records a b week e f g =
     week-cong a b week (ap (λ (k : ℕ). same k 0) e)
-    (both-ways _ _ (λ h. formed-mk b (λ p i. formed-on a h p (g p i)))
+    (by-both _ _ (λ h. formed-mk b (λ p i. formed-on a h p (g p i)))
     (λ h. formed-mk a (λ p i. formed-on b h p (f p i))))
     (λ site. part-cong a b week site (λ kind i l.
-    both-ways _ _ (moved a b f kind site (dayOf week i)) (moved b a g kind site (dayOf week i))))
+    by-both _ _ (moved a b f kind site (dayOf week i)) (moved b a g kind site (dayOf week i))))
   where
     moved : (x y : List ℕ) → ((p : Period) → In p x → In p y) → (kind site day : ℕ)
         → liesIn x kind site day ≡ true → liesIn y kind site day ≡ true
@@ -204,7 +204,7 @@ module _ (x r y : List ℕ) (week : ℕ) (wx : Whole x) (wr : Whole r) where
       → takesPartIn (x ++ (r ++ y)) week site ≡ takesPartIn (x ++ y) week site
   unmoved site f =
       part-cong (x ++ (r ++ y)) (x ++ y) week site (λ kind i l.
-      both-ways _ _
+      by-both _ _
       (λ e.
       let w = lies-on (x ++ (r ++ y)) kind site (dayOf week i) e in
       ⊎-elim (λ k. absurd (f (w .0) k kind i l (w .2) (w .3)))
@@ -217,7 +217,7 @@ module _ (x r y : List ℕ) (week : ℕ) (wx : Whole x) (wr : Whole r) where
   pub other-site : (site : ℕ) → ((p : Period) → In p r → p .site ≢ site)
       → takesPartIn (x ++ (r ++ y)) week site ≡ takesPartIn (x ++ y) week site
   unfolding ownOf
-  other-site site f = unmoved site (λ p k kind i l o e. f p k (same-on (p .site) site (and-r _ _ o)))
+  other-site site f = unmoved site (λ p k kind i l o e. f p k (same-on (p .site) site (and-second _ _ o)))
 
   -- well-formed records in which none of the week's Monday to Friday lies change nothing at all
   pub no-weekday : ((p : Period) → In p r → wellFormed p ≡ true)
@@ -227,7 +227,7 @@ module _ (x r y : List ℕ) (week : ℕ) (wx : Whole x) (wr : Whole r) where
       week-cong (x ++ (r ++ y)) (x ++ y) week
       (ap (λ (k : ℕ). same k 0)
       (omega (arith, length-append x (r ++ y), length-append r y, length-append x y)))
-      (both-ways _ _ (λ e. formed-mk (x ++ y) (λ p h. formed-on (x ++ (r ++ y)) e p (in-more p h)))
+      (by-both _ _ (λ e. formed-mk (x ++ y) (λ p h. formed-on (x ++ (r ++ y)) e p (in-more p h)))
       (λ e. formed-mk (x ++ (r ++ y)) (λ p h. ⊎-elim (f p) (formed-on (x ++ y) e p) (in-less p h))))
       (λ site. unmoved site (λ p k kind i l o. g p k i l))
 
@@ -243,8 +243,8 @@ module _ (x r y : List ℕ) (week : ℕ) (wx : Whole x) (wr : Whole r) where
         arith,
         w .1,
         w .2,
-        below-not (dayOf week i) (p .first) (not-on _ (and-l _ _ e)),
-        below-not (p .last) (dayOf week i) (not-on _ (and-r _ _ e)),
+        less-not (dayOf week i) (p .first) (not-on _ (and-first _ _ e)),
+        less-not (p .last) (dayOf week i) (not-on _ (and-second _ _ e)),
       ))
 
 -- a record twice is a record once, wherever the second stands
@@ -266,7 +266,7 @@ module _ (calendar : List ℕ) (bytes : (k : ℕ) → getD calendar k 0 < 256) (
 
   last-there : (p : Period) (i : ℕ) → lies (dayOf week i) p ≡ true → dayOf week i ≤ p .last
   unfolding lies
-  last-there p i e = below-not (p .last) (dayOf week i) (not-on _ (and-r _ _ e))
+  last-there p i e = less-not (p .last) (dayOf week i) (not-on _ (and-second _ _ e))
 
   pub past-part : (site : ℕ) → takesPartIn calendar week site ≡ false
   unfolding takesPartIn openOn

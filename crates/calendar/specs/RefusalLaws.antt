@@ -4,7 +4,7 @@ use mathlib.Core.Bool.{true, false}
 use mathlib.Core.List.{List}
 use Prim.Native.Nat.{ℕ}
 use native.Mathlib.Omega.{arith}
-use Rattle.sets.specs.TruthLaws.{choose-on, choose-off, check-on, check-off, same-mk, same-off}
+use Rattle.sets.specs.TruthLaws.{select-on, select-off, check-on, check-off, same-mk, same-off}
 use Rattle.calendar.specs.Calendar.{takesPartIn, numberingOf, wholeRecords, allWellFormed, somebodyIn}
 use Rattle.calendar.specs.Calendar.{weekRefusal, refusedBy, answeredBy, weekOf}
 
@@ -12,7 +12,7 @@ module _ (calendar : List ℕ) (week : ℕ) where
   -- the first check that fails decides
   refused : (k : ℕ) → weekRefusal calendar week ≡ k → (k ≡ 0 → ⊥) → weekOf calendar week ≡ refusedBy k
   unfolding weekOf
-  refused k e d = rw e (choose-off _ _ _ (same-off k 0 d))
+  refused k e d = rw e (select-off _ _ _ (same-off k 0 d))
 
   pub partial-13 : wholeRecords calendar ≡ false → weekOf calendar week ≡ refusedBy 13
   unfolding weekRefusal
@@ -30,4 +30,4 @@ module _ (calendar : List ℕ) (week : ℕ) where
   pub answered : wholeRecords calendar ≡ true → allWellFormed calendar ≡ true → somebodyIn calendar week ≡ true
       → weekOf calendar week ≡ answeredBy (numberingOf (takesPartIn calendar week))
   unfolding weekOf weekRefusal
-  answered w f t = choose-on _ _ _ (same-mk _ 0 (check-on _ _ _ w ∙ check-on _ _ _ f ∙ check-on _ _ _ t))
+  answered w f t = select-on _ _ _ (same-mk _ 0 (check-on _ _ _ w ∙ check-on _ _ _ f ∙ check-on _ _ _ t))

@@ -12,7 +12,7 @@ use lib.Seq.{ext-getD}
 use Rattle.sets.specs.EachLaws.{length-each, getD-each}
 use Rattle.sets.specs.EveryLaws.{some-on}
 use Rattle.sets.specs.Truth.{oneTo}
-use Rattle.sets.specs.TruthLaws.{Is, is, on, off, choose-on, choose-off, same-mk, one-low, one-high, one-mk}
+use Rattle.sets.specs.TruthLaws.{Is, is, on, off, select-on, select-off, same-mk, one-low, one-high, one-mk}
 use Rattle.sets.specs.TruthLaws.{le-or, eq-or, check-zero}
 use Rattle.calendar.specs.declared.Numbering.{Numbering}
 use Rattle.calendar.specs.Calendar.{takesPartIn, sitesTo, howMany, processOf, siteOf, numberingOf, weekRefusal}
@@ -60,7 +60,7 @@ module _ (takes : ℕ → Bool) where
 
   process-on : (s : ℕ) → oneTo 16 s ≡ true → takes s ≡ true → processIn a s ≡ howMany takes s
   unfolding processOf
-  process-on s e t = process-is s e ∙ choose-on (takes s) _ 0 t
+  process-on s e t = process-is s e ∙ select-on (takes s) _ 0 t
 
   site-is : (p : ℕ) → 1 ≤ p → p ≤ 16 → siteIn a p ≡ getD (sitesTo takes 16) (p - 1) 0
   unfolding numberingOf siteOf sitesTo
@@ -117,7 +117,7 @@ module _ (takes : ℕ → Bool) where
   }
     where
       none : (s : ℕ) → takes s ≡ false → processOf takes s ≡ 0
-      none s t = choose-off (takes s) _ 0 t
+      none s t = select-off (takes s) _ 0 t
 
       in-order : (s r : ℕ) → howMany takes s < howMany takes r → s < r
       in-order s r l = go (le-or r s)
@@ -234,7 +234,7 @@ pub week-numbers : (calendar : List ℕ) (week : ℕ) → weekRefusal calendar w
 unfolding weekOf answeredBy
 week-numbers calendar week e =
     let w : weekOf calendar week ≡ answeredBy (numberingOf (takesPartIn calendar week)) =
-    choose-on _ _ _ (same-mk _ 0 e) in
+    select-on _ _ _ (same-mk _ 0 e) in
     rw w (numbering-is (takesPartIn calendar week))
 
 -- and its n is 1 to 16, as a bench asks: a bench of the week opens with any t below n

@@ -7,7 +7,7 @@ ghost use mathlib.Core.Bool.{true};
 ghost use Prim.Native.Nat.{ℕ, _+_, _-_, _/_, _<_, _≤_, min};
 ghost use lib.ListN.{length};
 ghost use Rattle.sets.specs.Set.{has};
-ghost use Rattle.sets.specs.Truth.{_&&_, below};
+ghost use Rattle.sets.specs.Truth.{_and_, less};
 ghost use Rattle.calendar.specs.Calendar.{pairOf, periodsIn, periodAt, wellFormed, allWellFormed};
 ghost use Rattle.calendar.specs.Calendar.{lies, numberingOf, refusedBy, weekOf};
 ghost use Rattle.calendar.specs.NumberingLaws.{inSet};
@@ -86,7 +86,7 @@ fn weekdays_before(monday: u32, day: u32) -> usize
 // Those of Monday to Friday that lie in the record.
 fn weekdays_in(monday: u32, p: Period) -> u16
     requires { ⌜ monday ≤ 458745 ⌝ }
-    ensures { λ r. ⌜ ((i : ℕ) → has r i ≡ (below i 5 && lies (monday + i) p)) ⌝ }
+    ensures { λ r. ⌜ ((i : ℕ) → has r i ≡ (less i 5 and lies (monday + i) p)) ⌝ }
 {
     let until = weekdays_before(monday, p.last as u32 + 1);
     let from = weekdays_before(monday, p.first as u32);

@@ -9,14 +9,14 @@ use soundness::is_sound;
 ghost use mathlib.Core.Path.{_≡_};
 ghost use mathlib.Core.Bool.{true};
 ghost use Rattle.sets.specs.Lists.{everyIn};
-ghost use Rattle.sets.specs.Truth.{below, choose, check};
+ghost use Rattle.sets.specs.Truth.{less, select, check};
 ghost use Rattle.bench.specs.Calls.{answerOf};
 ghost use Rattle.bench.specs.Carry.{plainData, plainProcess, carryOf};
 
 // Whether a word has no high half; under an absent entry it does not count. No branch, so that the loop over the
 // words has none.
 fn word_plain(present: bool, word: u32) -> bool
-    ensures { λ r. ⌜ r ≡ choose present (below word 65536) true ⌝ }
+    ensures { λ r. ⌜ r ≡ select present (less word 65536) true ⌝ }
 {
     !present | (word < 65536)
 }

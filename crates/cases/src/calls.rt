@@ -157,7 +157,7 @@ fn carrying(b: Bench) {
 
 fn say_total(a: TotalAnswer) {
     match a {
-        TotalAnswer::Sum(v) => {
+        TotalAnswer::Total(v) => {
             say(0);
             say_long(v);
         }

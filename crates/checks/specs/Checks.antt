@@ -4,8 +4,8 @@ use mathlib.Core.Path.{_≡_, refl}
 use mathlib.Core.Bool.{Bool, true, false, not}
 use Prim.Native.Nat.{ℕ, _≤_}
 use Rattle.sets.specs.Set.{has, sizeOf, emptySet}
-use Rattle.sets.specs.Truth.{_&&_, same, below, choose, check}
-use Rattle.sets.specs.TruthLaws.{and-l, below-on, clash}
+use Rattle.sets.specs.Truth.{_and_, same, less, select, check}
+use Rattle.sets.specs.TruthLaws.{and-first, less-on, clash}
 use Rattle.process.specs.declared.Process.{Process}
 use Rattle.process.specs.Steps.{hasDecided, takesPart, dueOf}
 
@@ -23,28 +23,28 @@ unfoldable pub messageCheck : ℕ → ℕ → ℕ → ℕ → ℕ
 messageCheck crashed a m b = firstFailed (has crashed a) (has m b) true true
 
 unfoldable pub closeCheck : ℕ → ℕ → Process → ℕ
-closeCheck crashed a p = firstFailed (has crashed a) (takesPart p && same (p .outbox) emptySet) (dueOf a p) true
+closeCheck crashed a p = firstFailed (has crashed a) (takesPart p and same (p .outbox) emptySet) (dueOf a p) true
 
 unfoldable pub crashCheck : ℕ → ℕ → ℕ → ℕ
-crashCheck crashed a t = firstFailed (has crashed a) true true (below (sizeOf crashed) t)
+crashCheck crashed a t = firstFailed (has crashed a) true true (less (sizeOf crashed) t)
 
 -- a, which suspects those in m, is to suspect b
 unfoldable pub suspectCheck : ℕ → ℕ → ℕ → ℕ → ℕ
-suspectCheck crashed a m b = firstFailed (has crashed a) (has crashed b && not (has m b)) true true
+suspectCheck crashed a m b = firstFailed (has crashed a) (has crashed b and not (has m b)) true true
 
 -- what passes 6 and 7 is up to what is checked after them
-pub first-possible : (crashed passes7 passes8 passes9 : Bool) → (passes7 && not crashed) ≡ true
+pub first-possible : (crashed passes7 passes8 passes9 : Bool) → (passes7 and not crashed) ≡ true
     → firstFailed crashed passes7 passes8 passes9 ≡ firstFailed false true passes8 passes9
-unfolding firstFailed check choose _&&_
+unfolding firstFailed check select _and_
 first-possible true true passes8 passes9 e = clash false e refl
 first-possible true false passes8 passes9 e = clash false e refl
 first-possible false true passes8 passes9 e = refl
 first-possible false false passes8 passes9 e = clash false e refl
 
 -- what fails one of them does so whatever is checked after it
-pub first-impossible : (crashed passes7 passes8 passes9 : Bool) → (passes7 && not crashed) ≡ false
+pub first-impossible : (crashed passes7 passes8 passes9 : Bool) → (passes7 and not crashed) ≡ false
     → firstFailed crashed passes7 passes8 passes9 ≡ firstFailed crashed false false true
-unfolding firstFailed check choose _&&_
+unfolding firstFailed check select _and_
 first-impossible true passes7 passes8 passes9 e = refl
 first-impossible false true passes8 passes9 e = clash true refl e
 first-impossible false false passes8 passes9 e = refl
@@ -52,4 +52,4 @@ first-impossible false false passes8 passes9 e = refl
 -- a process that takes part has started
 pub takes-started : (p : Process) → takesPart p ≡ true → 1 ≤ p .round
 unfolding takesPart
-takes-started p e = below-on 0 (p .round) (and-l (below 0 (p .round)) (not (hasDecided p)) e)
+takes-started p e = less-on 0 (p .round) (and-first (less 0 (p .round)) (not (hasDecided p)) e)

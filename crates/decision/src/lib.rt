@@ -10,12 +10,12 @@ ghost use mathlib.Core.List.{_++_};
 ghost use Prim.Native.Nat.{_≤_};
 ghost use lib.ListN.{length, drop};
 ghost use Rattle.sets.specs.Lists.{each};
-ghost use Rattle.sets.specs.Truth.{choose};
+ghost use Rattle.sets.specs.Truth.{select};
 ghost use Rattle.bench.specs.Calls.{wordAt, showOf, shownIn};
 
 // An absent entry is written as 0.
 fn shown_word(present: bool, value: u32) -> u32
-    ensures { λ r. ⌜ r ≡ choose present value 0 ⌝ }
+    ensures { λ r. ⌜ r ≡ select present value 0 ⌝ }
 {
     if present { value } else { 0 }
 }

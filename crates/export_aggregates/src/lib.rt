@@ -22,7 +22,7 @@ pub extern "C" fn gerzulan_total(
         ≡ wordIn (λ v. v) (totalOf n (now (entries .entry)) marks (now (standing .entry))) (now (sum .entry))) ⌝ }
 {
     match aggregates::total(n, entries, marks, standing) {
-        TotalAnswer::Sum(v) => {
+        TotalAnswer::Total(v) => {
             *sum = v;
             0
         }

@@ -6,7 +6,7 @@ use Prim.Native.Nat.{ℕ, zero, suc, _/_, _%_}
 use lib.ListN.{getD, set, replicate}
 use Rattle.sets.specs.Lists.{each, every}
 use Rattle.sets.specs.Set.{has, insertOf, unionOf, differenceOf, emptySet}
-use Rattle.sets.specs.Truth.{_&&_, same, below, choose}
+use Rattle.sets.specs.Truth.{_and_, same, less, select}
 use Rattle.global_data.specs.declared.GlobalData.{GlobalData}
 use Rattle.global_data.specs.declared.Entry.{Entry}
 use Rattle.global_data.specs.declared.Entry.the-variants.{Absent, Value}
@@ -24,23 +24,23 @@ valueIn w = Value (portionsOf w) (dietOf w)
 
 -- ---- entries
 -- the entry of a present bit and a word: document 01's blank, or the value in the word
-abbrev pub entry : Bool → ℕ → Entry
-entry b w = choose b (valueIn w) Absent
+abbrev pub entryBy : Bool → ℕ → Entry
+entryBy b w = select b (valueIn w) Absent
 
 unfoldable pub entryOf : GlobalData → ℕ → Entry
-entryOf g k = entry (has (g .present) k) (getD (g .values) k 0)
+entryOf g k = entryBy (has (g .present) k) (getD (g .values) k 0)
 
 -- absent in both, or in both the same portions and the same diet portions
 unfoldable pub sameEntry : Entry → Entry → Bool
 sameEntry Absent Absent = true
 sameEntry Absent (Value q e) = false
 sameEntry (Value p d) Absent = false
-sameEntry (Value p d) (Value q e) = same p q && same d e
+sameEntry (Value p d) (Value q e) = same p q and same d e
 
 -- what refusal 15 looks at: the diet portions do not exceed the portions. An absent entry has neither.
 unfoldable pub dietFits : Entry → Bool
 dietFits Absent = true
-dietFits (Value p d) = not (below p d)
+dietFits (Value p d) = not (less p d)
 
 -- every entry absent
 unfoldable pub nothingOf : GlobalData
@@ -53,7 +53,7 @@ oneOf i v = record { present = insertOf emptySet i; values = set (replicate 16 0
 -- the word of entry k once g is filled from row: the row's, where row has the entry and g lacks it
 unfoldable pub filledWord : GlobalData → GlobalData → ℕ → ℕ
 filledWord g row k =
-    choose (has (differenceOf (row .present) (g .present)) k) (getD (row .values) k 0) (getD (g .values) k 0)
+    select (has (differenceOf (row .present) (g .present)) k) (getD (row .values) k 0) (getD (g .values) k 0)
 
 -- each entry absent in g takes the row's
 unfoldable pub fillOf : GlobalData → GlobalData → GlobalData
@@ -62,7 +62,7 @@ fillOf g row = record { present = unionOf (g .present) (row .present); values = 
 -- g, filled from the rows of the members of m below p, in rising order
 unfoldable pub fillFrom : ℕ → ℕ → (ℕ → GlobalData) → GlobalData → GlobalData
 fillFrom zero m rows g = g
-fillFrom (suc p) m rows g = choose (has m p) (fillOf (fillFrom p m rows g) (rows p)) (fillFrom p m rows g)
+fillFrom (suc p) m rows g = select (has m p) (fillOf (fillFrom p m rows g) (rows p)) (fillFrom p m rows g)
 
 -- each entry below n is the same in both
 unfoldable pub sameTo : ℕ → GlobalData → GlobalData → Bool
@@ -70,7 +70,7 @@ sameTo n g h = every n (λ k. sameEntry (entryOf g k) (entryOf h k))
 
 -- the row of each member of m below p is the same as g, in the entries below n
 unfoldable pub allSame : ℕ → ℕ → ℕ → (ℕ → GlobalData) → GlobalData → Bool
-allSame p n m rows g = every p (λ q. choose (has m q) (sameTo n (rows q) g) true)
+allSame p n m rows g = every p (λ q. select (has m q) (sameTo n (rows q) g) true)
 
 -- what lies past the end of an array of rows
 abbrev pub noData : GlobalData

@@ -15,13 +15,14 @@ use Rattle.sets.specs.Laws.{has-remove, intersection-lt, all-lt, set-ext}
 use Rattle.sets.specs.Set.{has, removeOf, unionOf, intersectionOf, differenceOf, allOf}
 use Rattle.sets.specs.TruthLaws as truth
 use Rattle.sets.specs.Lists.{each, every}
-use Rattle.sets.specs.Truth.{_&&_, _||_, same, below, choose}
-use Rattle.sets.specs.TruthLaws.{Is, on, off, is, clash, both-ways, choose-on}
-use Rattle.sets.specs.TruthLaws.{choose-off, or-off-r, or-mk-l, or-mk-r, and-l, and-r, and-mk, and-on-l, eq-or}
-use Rattle.sets.specs.TruthLaws.{and-on-r, and-off-r, off-by, below-on, below-mk}
+use Rattle.sets.specs.Truth.{_and_, _or_, same, less, select}
+use Rattle.sets.specs.TruthLaws.{Is, on, off, is, clash, by-both, select-on}
+use Rattle.sets.specs.TruthLaws.{select-off, or-off-r, or-mk-l, or-mk-r, and-first, and-second, and-mk, and-on-l}
+use Rattle.sets.specs.TruthLaws.{eq-or}
+use Rattle.sets.specs.TruthLaws.{and-on-r, and-off-r, off-by, less-on, less-mk}
 use Rattle.global_data.specs.declared.Entry.{Entry}
 use Rattle.global_data.specs.declared.Entry.the-variants.{Absent, Value}
-use Rattle.global_data.specs.GlobalData.{valueIn, entry, entryOf, sameEntry, nothingOf, oneOf}
+use Rattle.global_data.specs.GlobalData.{valueIn, entryBy, entryOf, sameEntry, nothingOf, oneOf}
 use Rattle.global_data.specs.GlobalData.{filledWord, fillOf, fillFrom, sameTo, allSame}
 use Rattle.global_data.specs.WordLaws.{value-word}
 use Rattle.global_data.specs.declared.GlobalData.{GlobalData}
@@ -29,11 +30,11 @@ use Rattle.global_data.specs.declared.GlobalData.{GlobalData}
 -- ---- entries
 pub entry-present : (g : GlobalData) (k : ℕ) → has (g .present) k ≡ true → entryOf g k ≡ valueIn (getD (g .values) k 0)
 unfolding entryOf
-entry-present g k e = choose-on (has (g .present) k) (valueIn (getD (g .values) k 0)) Absent e
+entry-present g k e = select-on (has (g .present) k) (valueIn (getD (g .values) k 0)) Absent e
 
 pub entry-absent : (g : GlobalData) (k : ℕ) → has (g .present) k ≡ false → entryOf g k ≡ Absent
 unfolding entryOf
-entry-absent g k e = choose-off (has (g .present) k) (valueIn (getD (g .values) k 0)) Absent e
+entry-absent g k e = select-off (has (g .present) k) (valueIn (getD (g .values) k 0)) Absent e
 
 -- an entry is not absent and a value
 pub not-both : {A : Type 0} (e : Entry) (p d : ℕ) → e ≡ Absent → e ≡ Value p d → A
@@ -74,14 +75,14 @@ one-word : (i v : ℕ) → i < 16 → getD (oneOf i v .values) i 0 ≡ v
 unfolding oneOf
 one-word i v h = getD-set-same (replicate 16 0) i v 0 h
 
-pub entry-one : (i v k : ℕ) → i < 16 → entryOf (oneOf i v) k ≡ choose (same k i) (valueIn v) Absent
+pub entry-one : (i v k : ℕ) → i < 16 → entryOf (oneOf i v) k ≡ select (same k i) (valueIn v) Absent
 entry-one i v k h = go (is (same k i))
   where
-    go : Is (same k i) → entryOf (oneOf i v) k ≡ choose (same k i) (valueIn v) Absent
+    go : Is (same k i) → entryOf (oneOf i v) k ≡ select (same k i) (valueIn v) Absent
     go (on t) =
         entry-present (oneOf i v) k (present-one i v k ∙ t)
-        ∙ ap valueIn (rw (truth.same-on k i t) (one-word i v h)) ∙ sym (choose-on (same k i) (valueIn v) Absent t)
-    go (off f) = entry-absent (oneOf i v) k (present-one i v k ∙ f) ∙ sym (choose-off (same k i) (valueIn v) Absent f)
+        ∙ ap valueIn (rw (truth.same-on k i t) (one-word i v h)) ∙ sym (select-on (same k i) (valueIn v) Absent t)
+    go (off f) = entry-absent (oneOf i v) k (present-one i v k ∙ f) ∙ sym (select-off (same k i) (valueIn v) Absent f)
 
 pub nothing-length : length (nothingOf .values) ≡ 16
 unfolding nothingOf
@@ -93,20 +94,20 @@ one-length i v = length-set (replicate 16 0) i v
 
 -- ---- filling from one row
 -- an absent entry takes the other
-unfoldable pub orElse : Entry → Entry → Entry
-orElse Absent e = e
-orElse (Value p d) e = Value p d
+unfoldable pub orEntry : Entry → Entry → Entry
+orEntry Absent e = e
+orEntry (Value p d) e = Value p d
 
-pub orElse-absent : (d e : Entry) → d ≡ Absent → orElse d e ≡ e
-unfolding orElse
-orElse-absent d e h = rw h
+pub orEntry-absent : (d e : Entry) → d ≡ Absent → orEntry d e ≡ e
+unfolding orEntry
+orEntry-absent d e h = rw h
 
-pub orElse-value : (d e : Entry) (v : ℕ) → d ≡ valueIn v → orElse d e ≡ valueIn v
-unfolding orElse
-orElse-value d e v h = rw h
+pub orEntry-value : (d e : Entry) (v : ℕ) → d ≡ valueIn v → orEntry d e ≡ valueIn v
+unfolding orEntry
+orEntry-value d e v h = rw h
 
 pub present-fill : (g row : GlobalData) (k : ℕ)
-    → has (fillOf g row .present) k ≡ (has (g .present) k || has (row .present) k)
+    → has (fillOf g row .present) k ≡ (has (g .present) k or has (row .present) k)
 unfolding fillOf
 present-fill g row k = has-union (g .present) (row .present) k
 
@@ -119,8 +120,8 @@ unfolding fillOf
 fill-length g row = length-each 16 (filledWord g row)
 
 pub entry-fill : (g row : GlobalData) (k : ℕ) → k < 16
-    → entryOf (fillOf g row) k ≡ orElse (entryOf g k) (entryOf row k)
-unfolding entryOf fillOf orElse filledWord choose _&&_ _||_
+    → entryOf (fillOf g row) k ≡ orEntry (entryOf g k) (entryOf row k)
+unfolding entryOf fillOf orEntry filledWord select _and_ _or_
 entry-fill g row k h =
     rw (
       has-union (g .present) (row .present) k,
@@ -130,7 +131,7 @@ entry-fill g row k h =
     (table (has (g .present) k) (has (row .present) k) (getD (g .values) k 0) (getD (row .values) k 0))
   where
     table : (a b : Bool) (x y : ℕ)
-        → entry (a || b) (choose (b && not a) y x) ≡ orElse (entry a x) (entry b y)
+        → entryBy (a or b) (select (b and not a) y x) ≡ orEntry (entryBy a x) (entryBy b y)
     table true true x y = refl
     table true false x y = refl
     table false true x y = refl
@@ -139,7 +140,7 @@ entry-fill g row k h =
 -- ---- the words as the code fills them
 -- the words of l, but those of the members of m the row's
 abbrev pub wordsFrom : ℕ → List ℕ → List ℕ → List ℕ
-wordsFrom m row l = each 16 (λ k. choose (has m k) (getD row k 0) (getD l k 0))
+wordsFrom m row l = each 16 (λ k. select (has m k) (getD row k 0) (getD l k 0))
 
 pub fill-words : (g row : GlobalData)
     → record {
@@ -155,11 +156,11 @@ pub words-more : (m : ℕ) (row l : List ℕ) (i : ℕ) → length l ≡ 16 → 
 words-more m row l i e b t = each-cong 16 _ _ (λ k h. go k (eq-or k i))
   where
     go : (k : ℕ) → (k ≡ i) ⊎ (k ≡ i → ⊥)
-        → choose (has (removeOf m i) k) (getD row k 0) (getD (set l i (getD row i 0)) k 0)
-        ≡ choose (has m k) (getD row k 0) (getD l k 0)
+        → select (has (removeOf m i) k) (getD row k 0) (getD (set l i (getD row i 0)) k 0)
+        ≡ select (has m k) (getD row k 0) (getD l k 0)
     go k (inl p) =
-        choose-off _ _ _ (has-remove m i k ∙ and-off-r _ _ (rw (truth.same-mk k i p)))
-        ∙ rw p (getD-set-same l i (getD row i 0) 0 (omega arith) ∙ sym (choose-on _ _ _ t))
+        select-off _ _ _ (has-remove m i k ∙ and-off-r _ _ (rw (truth.same-mk k i p)))
+        ∙ rw p (getD-set-same l i (getD row i 0) 0 (omega arith) ∙ sym (select-on _ _ _ t))
     go k (inr p) =
         rw (
           has-remove m i k ∙ and-on-r _ _ (rw (truth.same-off k i p)),
@@ -168,17 +169,17 @@ words-more m row l i e b t = each-cong 16 _ _ (λ k h. go k (eq-or k i))
 
 -- none is left
 pub words-none : (row l : List ℕ) → length l ≡ 16 → wordsFrom 0 row l ≡ l
-words-none row l e = sym (each-getD 16 _ 0 l e (λ k b. sym (choose-off _ _ _ (has-empty k))))
+words-none row l e = sym (each-getD 16 _ 0 l e (λ k b. sym (select-off _ _ _ (has-empty k))))
 
 -- ---- filling from the rows of the members
 module _ (m : ℕ) (rows : ℕ → GlobalData) (g : GlobalData) where
   pub fillFrom-on : (p : ℕ) → has m p ≡ true → fillFrom (suc p) m rows g ≡ fillOf (fillFrom p m rows g) (rows p)
   unfolding fillFrom
-  fillFrom-on p t = choose-on (has m p) (fillOf (fillFrom p m rows g) (rows p)) (fillFrom p m rows g) t
+  fillFrom-on p t = select-on (has m p) (fillOf (fillFrom p m rows g) (rows p)) (fillFrom p m rows g) t
 
   pub fillFrom-off : (p : ℕ) → has m p ≡ false → fillFrom (suc p) m rows g ≡ fillFrom p m rows g
   unfolding fillFrom
-  fillFrom-off p f = choose-off (has m p) (fillOf (fillFrom p m rows g) (rows p)) (fillFrom p m rows g) f
+  fillFrom-off p f = select-off (has m p) (fillOf (fillFrom p m rows g) (rows p)) (fillFrom p m rows g) f
 
   -- what holds of g, and is kept by a member's row and past one that is no member, holds of g filled
   pub fillFrom-ind : (P : ℕ → GlobalData → Type 0) → P 0 g
@@ -237,7 +238,7 @@ module _ (m : ℕ) (rows : ℕ → GlobalData) (g : GlobalData) where
           → entryOf (fillFrom (suc p) m rows g) k ≡ valueIn v
       step p (on e) ih =
           ap (λ (f : GlobalData). entryOf f k) (fillFrom-on p e) ∙ entry-fill (fillFrom p m rows g) (rows p) k b
-          ∙ orElse-value (entryOf (fillFrom p m rows g) k) (entryOf (rows p) k) v ih
+          ∙ orEntry-value (entryOf (fillFrom p m rows g) k) (entryOf (rows p) k) v ih
       step p (off e) ih = ap (λ (f : GlobalData). entryOf f k) (fillFrom-off p e) ∙ ih
 
       go : (d p : ℕ) → p ≡ q + d → entryOf (fillFrom p m rows g) k ≡ valueIn v
@@ -260,7 +261,7 @@ module _ (m : ℕ) (rows : ℕ → GlobalData) (g : GlobalData) where
       (λ h. hg)
       (λ q ih e h.
       entry-fill (fillFrom q m rows g) (rows q) k b
-      ∙ orElse-absent (entryOf (fillFrom q m rows g) k) (entryOf (rows q) k) (ih (λ r l. h r (omega arith)))
+      ∙ orEntry-absent (entryOf (fillFrom q m rows g) k) (entryOf (rows q) k) (ih (λ r l. h r (omega arith)))
       ∙ h q (omega arith) e)
       (λ q ih e h. ih (λ r l. h r (omega arith))) p
 
@@ -316,7 +317,7 @@ module _ (m : ℕ) (rows : ℕ → GlobalData) (g : GlobalData) where
 
       filled : (q : ℕ) → has m q ≡ true
           → (entryOf (fillFrom q m rows g) k ≡ valueIn v → (entryOf g k ≡ valueIn v) ⊎ Lowest m rows g q k v)
-          → orElse (entryOf (fillFrom q m rows g) k) (entryOf (rows q) k) ≡ valueIn v
+          → orEntry (entryOf (fillFrom q m rows g) k) (entryOf (rows q) k) ≡ valueIn v
           → (entryOf (fillFrom q m rows g) k ≡ Absent) ⊎ ((w : ℕ) × (entryOf (fillFrom q m rows g) k ≡ valueIn w))
           → (entryOf g k ≡ valueIn v) ⊎ Lowest m rows g (suc q) k v
       filled q e ih h (inl a) =
@@ -324,13 +325,13 @@ module _ (m : ℕ) (rows : ℕ → GlobalData) (g : GlobalData) where
             who = q;
             low = omega arith;
             member = e;
-            shows = sym (orElse-absent (entryOf (fillFrom q m rows g) k) (entryOf (rows q) k) a) ∙ h;
+            shows = sym (orEntry-absent (entryOf (fillFrom q m rows g) k) (entryOf (rows q) k) a) ∙ h;
             lacks = absent-own m rows g q k a;
             none-before = absent-rows m rows g q k a;
           }
       filled q e ih h (inr w) =
           more q
-          (ih (w .1 ∙ sym (orElse-value (entryOf (fillFrom q m rows g) k) (entryOf (rows q) k) (w .0) (w .1)) ∙ h))
+          (ih (w .1 ∙ sym (orEntry-value (entryOf (fillFrom q m rows g) k) (entryOf (rows q) k) (w .0) (w .1)) ∙ h))
 
   -- and it is that member's value
   pub fill-lowest : (p k v : ℕ) → k < 16 → Lowest m rows g p k v → entryOf (fillFrom p m rows g) k ≡ valueIn v
@@ -339,7 +340,7 @@ module _ (m : ℕ) (rows : ℕ → GlobalData) (g : GlobalData) where
       fill-later m rows g (suc q) p k v b (w .low)
       (ap (λ (f : GlobalData). entryOf f k) (fillFrom-on m rows g q (w .member))
       ∙ entry-fill (fillFrom q m rows g) (rows q) k b
-      ∙ orElse-absent (entryOf (fillFrom q m rows g) k) (entryOf (rows q) k)
+      ∙ orEntry-absent (entryOf (fillFrom q m rows g) k) (entryOf (rows q) k)
       (fill-absent m rows g q k b (w .lacks) (w .none-before))
       ∙ w .shows)
 
@@ -350,7 +351,7 @@ sameEntry-on Absent Absent h = refl
 sameEntry-on Absent (Value q e) h = clash false h refl
 sameEntry-on (Value p d) Absent h = clash false h refl
 sameEntry-on (Value p d) (Value q e) h =
-    ap₂ Value (truth.same-on p q (and-l _ _ h)) (truth.same-on d e (and-r _ _ h))
+    ap₂ Value (truth.same-on p q (and-first _ _ h)) (truth.same-on d e (and-second _ _ h))
 
 pub sameEntry-refl : (e : Entry) → sameEntry e e ≡ true
 unfolding sameEntry
@@ -382,7 +383,7 @@ sameTo-refl n g = same-mk n g g (λ k l. refl)
 
 pub sameTo-sym : (n : ℕ) (g h : GlobalData) → sameTo n g h ≡ sameTo n h g
 sameTo-sym n g h =
-    both-ways (sameTo n g h) (sameTo n h g) (λ e. same-mk n h g (λ k l. sym (same-on n g h e k l)))
+    by-both (sameTo n g h) (sameTo n h g) (λ e. same-mk n h g (λ k l. sym (same-on n g h e k l)))
     (λ e. same-mk n g h (λ k l. sym (same-on n h g e k l)))
 
 -- ---- the same by present marks and words, as the code compares
@@ -392,24 +393,24 @@ marks n g = intersectionOf (allOf n) (g .present)
 
 -- where entry k is asked for, its words are the same
 abbrev pub wordsSame : ℕ → GlobalData → GlobalData → ℕ → Bool
-wordsSame m g h k = choose (has m k) (same (getD (g .values) k 0) (getD (h .values) k 0)) true
+wordsSame m g h k = select (has m k) (same (getD (g .values) k 0) (getD (h .values) k 0)) true
 
 -- the same entry is present in both or in neither
 same-present : (g h : GlobalData) (k : ℕ) → entryOf g k ≡ entryOf h k → has (g .present) k ≡ has (h .present) k
-same-present g h k e = both-ways _ _ (λ t. on-too g h e t) (λ t. on-too h g (sym e) t)
+same-present g h k e = by-both _ _ (λ t. on-too g h e t) (λ t. on-too h g (sym e) t)
   where
     on-too : (g h : GlobalData) → entryOf g k ≡ entryOf h k → has (g .present) k ≡ true → has (h .present) k ≡ true
     on-too g h e t = value-present h k _ _ (sym e ∙ entry-present g k t)
 
-has-marks : (n : ℕ) (g : GlobalData) (k : ℕ) → has (marks n g) k ≡ (below k n && has (g .present) k)
-has-marks n g k = has-intersection _ _ k ∙ ap (λ (b : Bool). b && has (g .present) k) (has-all n k)
+has-marks : (n : ℕ) (g : GlobalData) (k : ℕ) → has (marks n g) k ≡ (less k n and has (g .present) k)
+has-marks n g k = has-intersection _ _ k ∙ ap (λ (b : Bool). b and has (g .present) k) (has-all n k)
 
 module _ (n : ℕ) (g h : GlobalData) where
   pub same-marks : sameTo n g h ≡ true → marks n g ≡ marks n h
   same-marks e =
       set-ext n _ _ (intersection-lt n _ _ (all-lt n)) (intersection-lt n _ _ (all-lt n))
       (λ k l.
-      has-marks n g k ∙ ap (λ (b : Bool). below k n && b) (same-present g h k (same-on n g h e k l))
+      has-marks n g k ∙ ap (λ (b : Bool). less k n and b) (same-present g h k (same-on n g h e k l))
       ∙ sym (has-marks n h k))
 
   pub same-unmarked : (marks n g ≡ marks n h → ⊥) → sameTo n g h ≡ false
@@ -420,22 +421,22 @@ module _ (n : ℕ) (g h : GlobalData) where
     -- entry k below n is present in h where it is in g
     there : (k : ℕ) → k < n → has (g .present) k ≡ has (h .present) k
     there k l =
-        sym (has-marks n g k ∙ and-on-l _ _ (below-mk k n l)) ∙ ap (λ (x : ℕ). has x k) m ∙ has-marks n h k
-        ∙ and-on-l _ _ (below-mk k n l)
+        sym (has-marks n g k ∙ and-on-l _ _ (less-mk k n l)) ∙ ap (λ (x : ℕ). has x k) m ∙ has-marks n h k
+        ∙ and-on-l _ _ (less-mk k n l)
 
     pub same-words-marked : sameTo n g h ≡ every 16 (wordsSame (marks n g) g h)
     same-words-marked =
-        both-ways _ _ (λ e. every-mk 16 (wordsSame (marks n g) g h) (λ k b. words e k (is (has (marks n g) k))))
+        by-both _ _ (λ e. every-mk 16 (wordsSame (marks n g) g h) (λ k b. words e k (is (has (marks n g) k))))
         (λ e. same-mk n g h (λ k l. entries k l (every-on 16 (wordsSame (marks n g) g h) e k (omega arith))
         (is (has (g .present) k))))
       where
         words : sameTo n g h ≡ true → (k : ℕ) → Is (has (marks n g) k) → wordsSame (marks n g) g h k ≡ true
-        words e k (off f) = choose-off _ _ true f
+        words e k (off f) = select-off _ _ true f
         words e k (on t) =
             let b = sym (has-marks n g k) ∙ t in
-            let l : k < n = below-on k n (and-l _ _ b) in
-            let u : has (g .present) k ≡ true = and-r _ _ b in
-            choose-on _ _ true t
+            let l : k < n = less-on k n (and-first _ _ b) in
+            let u : has (g .present) k ≡ true = and-second _ _ b in
+            select-on _ _ true t
             ∙ truth.same-mk _ _ (value-word _ _ (sym (entry-present g k u) ∙ same-on n g h e k l
             ∙ entry-present h k (sym (there k l) ∙ u)))
 
@@ -445,24 +446,24 @@ module _ (n : ℕ) (g h : GlobalData) where
         entries k l e (on t) =
             entry-present g k t
             ∙ ap valueIn (truth.same-on _ _
-            (sym (choose-on _ _ true (has-marks n g k ∙ and-mk _ _ (below-mk k n l) t)) ∙ e))
+            (sym (select-on _ _ true (has-marks n g k ∙ and-mk _ _ (less-mk k n l) t)) ∙ e))
             ∙ sym (entry-present h k (sym (there k l) ∙ t))
 
 module _ (p n m : ℕ) (rows : ℕ → GlobalData) (g : GlobalData) where
   abbrev row-same : ℕ → Bool
-  row-same q = choose (has m q) (sameTo n (rows q) g) true
+  row-same q = select (has m q) (sameTo n (rows q) g) true
 
   pub allSame-on : allSame p n m rows g ≡ true → (q : ℕ) → q < p → has m q ≡ true → sameTo n (rows q) g ≡ true
   unfolding allSame
-  allSame-on e q l t = sym (choose-on (has m q) (sameTo n (rows q) g) true t) ∙ every-on p row-same e q l
+  allSame-on e q l t = sym (select-on (has m q) (sameTo n (rows q) g) true t) ∙ every-on p row-same e q l
 
   pub allSame-mk : ((q : ℕ) → q < p → has m q ≡ true → sameTo n (rows q) g ≡ true) → allSame p n m rows g ≡ true
   unfolding allSame
   allSame-mk h = every-mk p row-same (λ q l. go q l (is (has m q)))
     where
       go : (q : ℕ) → q < p → Is (has m q) → row-same q ≡ true
-      go q l (on t) = choose-on (has m q) (sameTo n (rows q) g) true t ∙ h q l t
-      go q l (off f) = choose-off (has m q) (sameTo n (rows q) g) true f
+      go q l (on t) = select-on (has m q) (sameTo n (rows q) g) true t ∙ h q l t
+      go q l (off f) = select-off (has m q) (sameTo n (rows q) g) true f
 
   pub allSame-not : allSame p n m rows g ≡ false → (q : ℕ) × (q < p) × (has m q ≡ true) × (sameTo n (rows q) g ≡ false)
   unfolding allSame
@@ -470,5 +471,5 @@ module _ (p n m : ℕ) (rows : ℕ → GlobalData) (g : GlobalData) where
     where
       go : (q : ℕ) → q < p → row-same q ≡ false → Is (has m q)
           → (q : ℕ) × (q < p) × (has m q ≡ true) × (sameTo n (rows q) g ≡ false)
-      go q l u (on t) = (q, l, t, sym (choose-on (has m q) (sameTo n (rows q) g) true t) ∙ u)
-      go q l u (off f) = clash (row-same q) (choose-off (has m q) (sameTo n (rows q) g) true f) u
+      go q l u (on t) = (q, l, t, sym (select-on (has m q) (sameTo n (rows q) g) true t) ∙ u)
+      go q l u (off f) = clash (row-same q) (select-off (has m q) (sameTo n (rows q) g) true f) u

@@ -1,7 +1,7 @@
 -- Request C-16: one pass over the rows both fills and compares. `one-pass` is the law that it is enough: the filled
 -- global data is the same as the old one and as each row just where each row is the same as the old one.
--- `Passing` is the pass, a process at a time from 0 on: the members below the one that it has come to are filled in and
--- compared, by the definitions.
+-- `Passing` is the pass, a process at a time from 0 on: the members below the one that it has come to are filled in
+-- and compared, by the definitions.
 use mathlib.Core.Path.{_≡_, refl, sym, ap, _∙_}
 use mathlib.Core.Logic.{_≢_, ⊎-elim}
 use mathlib.Core.Bool.{Bool, true, false}
@@ -13,8 +13,9 @@ use lib.Pow.{pow-pos, pow-mono, shr-shr}
 use Rattle.sets.specs.Set.{has}
 use Rattle.sets.specs.Laws.{has-low, has-past}
 use Rattle.sets.specs.Lists.{every}
-use Rattle.sets.specs.Truth.{_&&_, same}
-use Rattle.sets.specs.TruthLaws.{both-ways, choose-on, choose-off, and-l, and-r, and-mk, and-on-l, same-mk, same-off}
+use Rattle.sets.specs.Truth.{_and_, same}
+use Rattle.sets.specs.TruthLaws.{by-both, select-on, select-off, and-first, and-second, and-mk, and-on-l, same-mk}
+use Rattle.sets.specs.TruthLaws.{same-off}
 use Rattle.sets.specs.TruthLaws.{le-or}
 use Rattle.global_data.specs.declared.GlobalData.{GlobalData}
 use Rattle.global_data.specs.GlobalData.{entryOf, fillOf, fillFrom, sameTo, allSame}
@@ -37,16 +38,16 @@ module _ (n p m : ℕ) (rows : ℕ → GlobalData) (g : GlobalData) (few : n ≤
       ∙ sym a)
       (λ w. fill-keeps m rows g p k (w .0) (omega arith) (w .1) ∙ sym (w .1)) (absent-or g k)
 
-  pub one-pass : (sameTo n filled g && allSame p n m rows filled) ≡ allSame p n m rows g
+  pub one-pass : (sameTo n filled g and allSame p n m rows filled) ≡ allSame p n m rows g
   one-pass =
-      both-ways _ _
+      by-both _ _
       (λ e.
       allSame-mk p n m rows g
       (λ q b t.
       laws.same-mk n (rows q) g
       (λ k l.
-      laws.same-on n (rows q) filled (allSame-on p n m rows filled (and-r _ _ e) q b t) k l
-      ∙ laws.same-on n filled g (and-l _ _ e) k l)))
+      laws.same-on n (rows q) filled (allSame-on p n m rows filled (and-second _ _ e) q b t) k l
+      ∙ laws.same-on n filled g (and-first _ _ e) k l)))
       (λ e.
       and-mk _ _ (laws.same-mk n filled g (fill-idle e))
       (allSame-mk p n m rows filled
@@ -56,13 +57,13 @@ module _ (n p m : ℕ) (rows : ℕ → GlobalData) (g : GlobalData) (few : n ≤
 
 -- ---- one process more
 module _ (n m : ℕ) (rows : ℕ → GlobalData) (g : GlobalData) (p : ℕ) where
-  allSame-in : has m p ≡ true → allSame (suc p) n m rows g ≡ (sameTo n (rows p) g && allSame p n m rows g)
+  allSame-in : has m p ≡ true → allSame (suc p) n m rows g ≡ (sameTo n (rows p) g and allSame p n m rows g)
   unfolding allSame every
-  allSame-in t = rw (choose-on (has m p) (sameTo n (rows p) g) true t)
+  allSame-in t = rw (select-on (has m p) (sameTo n (rows p) g) true t)
 
   allSame-off : has m p ≡ false → allSame (suc p) n m rows g ≡ allSame p n m rows g
   unfolding allSame every
-  allSame-off f = and-on-l _ _ (choose-off (has m p) (sameTo n (rows p) g) true f)
+  allSame-off f = and-on-l _ _ (select-off (has m p) (sameTo n (rows p) g) true f)
 
 -- ---- the pass over the rows of the members of m: those below `seen` are seen, and `left` has the bits of the others,
 -- from `seen` on. g is the old global data filled from the rows seen, and ok says that none of these differs from the
@@ -91,7 +92,7 @@ module _ (n m : ℕ) (rows : ℕ → GlobalData) (old : GlobalData) where
 
     same-past : (p : ℕ) → q ≤ p → allSame p n m rows old ≡ allSame q n m rows old
     same-past p l =
-        both-ways _ _
+        by-both _ _
         (λ e. allSame-mk q n m rows old (λ k b t. allSame-on p n m rows old e k (omega arith) t))
         (λ e. allSame-mk p n m rows old (λ k b t. allSame-on q n m rows old e k (has-low q m k h t) t))
 
@@ -111,8 +112,8 @@ module _ (n m : ℕ) (rows : ℕ → GlobalData) (old : GlobalData) where
     half : left / 2 ≡ m / 2 ^ (seen + 1)
     half = rw (w .others) (shr-shr m seen 1)
 
-    one : suc seen ≡ seen + 1
-    one = omega arith
+    next-seen : suc seen ≡ seen + 1
+    next-seen = omega arith
 
     -- a turn: the next process is no member
     pub passing-skip : left ≢ 0 → left % 2 ≢ 1 → Passing n m rows old (seen + 1) (left / 2) g ok
@@ -122,21 +123,21 @@ module _ (n m : ℕ) (rows : ℕ → GlobalData) (old : GlobalData) where
           few = w .few;
           within = omega (arith, passing-lt z);
           others = half;
-          fills = w .fills ∙ rw one at (sym (fillFrom-off m rows old seen f));
-          compares = w .compares ∙ rw one at (sym (allSame-off n m rows old seen f));
+          fills = w .fills ∙ rw next-seen at (sym (fillFrom-off m rows old seen f));
+          compares = w .compares ∙ rw next-seen at (sym (allSame-off n m rows old seen f));
         }
 
     -- or it is one, and f and `still` are what comes of its row
     pub passing-more : left ≢ 0 → left % 2 ≡ 1 → (f : GlobalData) (still : Bool) → f ≡ fillOf g (rows seen)
-        → still ≡ (sameTo n (rows seen) old && ok) → Passing n m rows old (seen + 1) (left / 2) f still
+        → still ≡ (sameTo n (rows seen) old and ok) → Passing n m rows old (seen + 1) (left / 2) f still
     passing-more z o f still ef es =
         let t : has m seen ≡ true = next-is ∙ same-mk _ _ o in
         record {
           few = w .few;
           within = omega (arith, passing-lt z);
           others = half;
-          fills = rw (ef, w .fills) (rw one at (sym (fillFrom-on m rows old seen t)));
-          compares = rw (es, w .compares) (rw one at (sym (allSame-in n m rows old seen t)));
+          fills = rw (ef, w .fills) (rw next-seen at (sym (fillFrom-on m rows old seen t)));
+          compares = rw (es, w .compares) (rw next-seen at (sym (allSame-in n m rows old seen t)));
         }
 
     -- g has its sixteen words

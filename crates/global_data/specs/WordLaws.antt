@@ -5,8 +5,8 @@ use mathlib.Core.Bool.{true, false}
 use Prim.Native.Nat.{ℕ, _+_, _*_, _^_, _≤_, _<_}
 use native.Mathlib.Omega.{arith}
 use Rattle.sets.specs.Truth.{same}
-use Rattle.sets.specs.TruthLaws.{both-ways, and-l, and-r, and-mk, same-on, same-mk, below-on, below-mk}
-use Rattle.sets.specs.TruthLaws.{below-not, below-off, not-on, not-off}
+use Rattle.sets.specs.TruthLaws.{by-both, and-first, and-second, and-mk, same-on, same-mk, less-on, less-mk}
+use Rattle.sets.specs.TruthLaws.{less-not, less-off, not-on, not-off}
 use Rattle.global_data.specs.declared.Entry.the-variants.{Value}
 use Rattle.global_data.specs.GlobalData.{portionsOf, dietOf, valueIn, sameEntry, dietFits}
 
@@ -51,23 +51,23 @@ value-word v w e =
 pub same-words : (v w : ℕ) → sameEntry (valueIn v) (valueIn w) ≡ same v w
 unfolding sameEntry
 same-words v w =
-    both-ways _ _
-    (λ e. same-mk v w (same-word v w (same-on _ _ (and-l _ _ e)) (same-on _ _ (and-r _ _ e))))
+    by-both _ _
+    (λ e. same-mk v w (same-word v w (same-on _ _ (and-first _ _ e)) (same-on _ _ (and-second _ _ e))))
     (λ e. let q = same-on v w e in and-mk _ _ (same-mk _ _ (ap portionsOf q)) (same-mk _ _ (ap dietOf q)))
 
 -- ---- what refusal 15 looks at
 pub fits-on : (p d : ℕ) → dietFits (Value p d) ≡ true → d ≤ p
 unfolding dietFits
-fits-on p d e = below-not p d (not-on _ e)
+fits-on p d e = less-not p d (not-on _ e)
 
 pub fits-mk : (p d : ℕ) → d ≤ p → dietFits (Value p d) ≡ true
 unfolding dietFits
-fits-mk p d h = rw (below-off p d h)
+fits-mk p d h = rw (less-off p d h)
 
 pub fits-not : (p d : ℕ) → dietFits (Value p d) ≡ false → p < d
 unfolding dietFits
-fits-not p d e = below-on p d (not-off _ e)
+fits-not p d e = less-on p d (not-off _ e)
 
 pub fits-off : (p d : ℕ) → p < d → dietFits (Value p d) ≡ false
 unfolding dietFits
-fits-off p d h = rw (below-mk p d h)
+fits-off p d h = rw (less-mk p d h)

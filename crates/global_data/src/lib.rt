@@ -4,7 +4,7 @@ ghost use mathlib.Core.Path.{_≡_};
 ghost use mathlib.Core.Bool.{true};
 ghost use Prim.Native.Nat.{_<_, _≤_};
 ghost use lib.ListN.{length};
-ghost use Rattle.sets.specs.Truth.{same, choose};
+ghost use Rattle.sets.specs.Truth.{same, select};
 ghost use Rattle.global_data.specs.declared.Entry.{Entry};
 ghost use Rattle.global_data.specs.GlobalData.{portionsOf, dietOf, valueIn, dietFits};
 ghost use Rattle.global_data.specs.GlobalData.{nothingOf, oneOf, fillOf, sameTo};
@@ -103,7 +103,7 @@ impl GlobalData {
 // Whether two words are the same, where that is asked. Words hold nothing but the two numbers, so that they are
 // compared as one.
 fn same_where(asked: bool, x: u32, y: u32) -> bool
-    ensures { λ r. ⌜ r ≡ choose asked (same x y) true ⌝ }
+    ensures { λ r. ⌜ r ≡ select asked (same x y) true ⌝ }
 {
     if asked { x == y } else { true }
 }

@@ -4,7 +4,7 @@ use mathlib.Core.List.{List, []}
 use mathlib.Core.Bool.{Bool, true, false}
 use Prim.Native.Nat.{ℕ}
 use lib.ListN.{length, getD}
-use Rattle.sets.specs.Truth.{same, choose}
+use Rattle.sets.specs.Truth.{same, select}
 use Rattle.bench.specs.declared.Bench.{Bench}
 use Rattle.bench.specs.declared.Answer.{Answer}
 use Rattle.bench.specs.declared.Answer.the-variants.{Accepted, Refused}
@@ -18,11 +18,11 @@ use Rattle.one_record.specs.declared.Counted.{Counted}
 
 -- its 8 bytes; of any other length there is none
 unfoldable pub recordIn : List ℕ → List ℕ
-recordIn l = choose (same (length l) 8) l []
+recordIn l = select (same (length l) 8) l []
 
 -- the answer by the end of a run of it: nothing accepted at the end of the schedule, and there was none
 unfoldable pub answerTo : ℕ → Cause → Answer
-answerTo accepted Empty = choose (same accepted 0) (Refused (refused 3)) Accepted
+answerTo accepted Empty = select (same accepted 0) (Refused (refused 3)) Accepted
 answerTo accepted Spent = Accepted
 answerTo accepted (RefusedRun r) = Refused r
 

@@ -9,7 +9,7 @@ use bench::Stepped;
 use run::run_bytes;
 ghost use mathlib.Core.Path.{_≡_};
 ghost use lib.ListN.{drop};
-ghost use Rattle.bench.specs.Calls.{more, stepOf, tallied};
+ghost use Rattle.bench.specs.Calls.{raised, stepOf, tallied};
 ghost use Rattle.one_record.specs.OneRecord.{answerTo, recordIn, isAccepted, crashByte, countedOf};
 
 // What the call for one record gives, with the tally after it.
@@ -76,7 +76,7 @@ fn crash_byte(rec: &[u8]) -> bool
 
 // One more, if it counts and there is room.
 fn one_more(counts: bool, x: u32) -> u32
-    ensures { λ r. ⌜ r ≡ more counts x ⌝ }
+    ensures { λ r. ⌜ r ≡ raised counts x ⌝ }
 {
     if !counts {
         return x;

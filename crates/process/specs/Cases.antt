@@ -6,7 +6,7 @@ use mathlib.Core.Bool.{Bool, true, false, not}
 use Prim.Native.Nat.{ℕ, zero, suc, _+_, _*_}
 use Rattle.sets.specs.Lists.{each, every}
 use Rattle.sets.specs.Set.{has, insertOf, removeOf, unionOf, intersectionOf, differenceOf, allOf}
-use Rattle.sets.specs.Truth.{_&&_, _||_, same, choose}
+use Rattle.sets.specs.Truth.{_and_, _or_, same, select}
 use Rattle.global_data.specs.declared.GlobalData.{GlobalData}
 use Rattle.global_data.specs.declared.Entry.{Entry}
 use Rattle.global_data.specs.declared.Entry.the-variants.{Absent, Value}
@@ -70,9 +70,9 @@ word : ℕ → ℕ → List ℕ
 word zero m = m ∷ []
 word (suc k) m = 0 ∷ word k m
 
-pred : ℕ → ℕ
-pred zero = zero
-pred (suc k) = k
+oneLess : ℕ → ℕ
+oneLess zero = zero
+oneLess (suc k) = k
 
 processOf : Start → Process
 processOf s =
@@ -84,7 +84,7 @@ processOf s =
       suspected = s .suspected;
       outbox = 0;
       estimate = dataFrom 0 (s .estimate);
-      received = word (pred (s .round)) (s .arrived);
+      received = word (oneLess (s .round)) (s .arrived);
     }
 
 sameBool : Bool → Bool → Bool
@@ -95,7 +95,7 @@ sameBool false false = true
 -- the entries from entry k are the listed ones
 shows : ℕ → GlobalData → List Entry → Bool
 shows k g [] = true
-shows k g (e ∷ l) = sameEntry (entryOf g k) e && shows (suc k) g l
+shows k g (e ∷ l) = sameEntry (entryOf g k) e and shows (suc k) g l
 
 pub passes : Case → Bool
 passes c =
@@ -103,14 +103,14 @@ passes c =
     let p = closeOf (c .n) (c .t) (c .a) rows (processOf (c .start)) in
     let e = c .end in
     same (closingNumber (closingOf (c .n) (c .t) (c .a) rows (processOf (c .start)))) (closingNumber (e .closing))
-    && (sameBool (hasDecided p) (not (opensNext (e .closing)))
-    && (same (p .round) (e .round)
-    && (same (p .previous) (e .previous)
-    && (same (p .current) (e .current) && (same (p .outbox) (e .outbox) && shows 0 (p .estimate) (e .estimate))))))
+    and (sameBool (hasDecided p) (not (opensNext (e .closing)))
+    and (same (p .round) (e .round)
+    and (same (p .previous) (e .previous)
+    and (same (p .current) (e .current) and (same (p .outbox) (e .outbox) and shows 0 (p .estimate) (e .estimate))))))
 
 pub allPass : List Case → Bool
 allPass [] = true
-allPass (c ∷ l) = passes c && allPass l
+allPass (c ∷ l) = passes c and allPass l
 
 -- ---- the table
 -- all sets and all estimates agree: it decides, and owes the decision to the other. Early it is by the agreement;
@@ -219,11 +219,11 @@ table =
     ∷ lowest 3 3 8 ∷ lowest 2 2 9 ∷ []
 
 -- every case passes: the checker computes it from the definitions
-pub cases : allPass table ≡ true
-unfolding dataFrom rowsFrom word pred processOf sameBool shows passes allPass agreement ownOld suspectedSender
+pub cases-hold : allPass table ≡ true
+unfolding dataFrom rowsFrom word oneLess processOf sameBool shows passes allPass agreement ownOld suspectedSender
     setsDiffer valuesDiffer zeroOrAbsent lastRound lowest table
-    has insertOf removeOf unionOf intersectionOf differenceOf allOf _&&_ _||_ same choose every each
+    has insertOf removeOf unionOf intersectionOf differenceOf allOf _and_ _or_ same select every each
     portionsOf dietOf entryOf sameEntry filledWord fillOf fillFrom sameTo allSame
     hasDecided openRoundOf arrivedOf nextOf peersOf filledOf agreedOf closingOf closingNumber opensNext decidesOf
     owedOf decideOf advanceOf closeOf
-cases = refl
+cases-hold = refl

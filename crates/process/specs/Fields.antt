@@ -5,30 +5,30 @@ use Rattle.global_data.specs.declared.GlobalData.{GlobalData}
 use Rattle.process.specs.declared.Process.{Process}
 
 -- its fields in the order of the struct
-abbrev pub whole : ℕ → ℕ → ℕ → ℕ → ℕ → ℕ → GlobalData → List ℕ → Process
-whole r d p c s o g l =
+abbrev pub made : ℕ → ℕ → ℕ → ℕ → ℕ → ℕ → GlobalData → List ℕ → Process
+made r d p c s o g l =
     record { round = r; decided = d; previous = p; current = c; suspected = s; outbox = o; estimate = g; received = l }
 
 abbrev pub withRound : ℕ → Process → Process
-withRound r p = whole r (p .decided) (p .previous) (p .current) (p .suspected) (p .outbox) (p .estimate) (p .received)
+withRound r p = made r (p .decided) (p .previous) (p .current) (p .suspected) (p .outbox) (p .estimate) (p .received)
 
 abbrev pub withDecided : ℕ → Process → Process
-withDecided d p = whole (p .round) d (p .previous) (p .current) (p .suspected) (p .outbox) (p .estimate) (p .received)
+withDecided d p = made (p .round) d (p .previous) (p .current) (p .suspected) (p .outbox) (p .estimate) (p .received)
 
 abbrev pub withPrevious : ℕ → Process → Process
-withPrevious m p = whole (p .round) (p .decided) m (p .current) (p .suspected) (p .outbox) (p .estimate) (p .received)
+withPrevious m p = made (p .round) (p .decided) m (p .current) (p .suspected) (p .outbox) (p .estimate) (p .received)
 
 abbrev pub withCurrent : ℕ → Process → Process
-withCurrent m p = whole (p .round) (p .decided) (p .previous) m (p .suspected) (p .outbox) (p .estimate) (p .received)
+withCurrent m p = made (p .round) (p .decided) (p .previous) m (p .suspected) (p .outbox) (p .estimate) (p .received)
 
 abbrev pub withSuspected : ℕ → Process → Process
-withSuspected m p = whole (p .round) (p .decided) (p .previous) (p .current) m (p .outbox) (p .estimate) (p .received)
+withSuspected m p = made (p .round) (p .decided) (p .previous) (p .current) m (p .outbox) (p .estimate) (p .received)
 
 abbrev pub withOutbox : ℕ → Process → Process
-withOutbox m p = whole (p .round) (p .decided) (p .previous) (p .current) (p .suspected) m (p .estimate) (p .received)
+withOutbox m p = made (p .round) (p .decided) (p .previous) (p .current) (p .suspected) m (p .estimate) (p .received)
 
 abbrev pub withEstimate : GlobalData → Process → Process
-withEstimate g p = whole (p .round) (p .decided) (p .previous) (p .current) (p .suspected) (p .outbox) g (p .received)
+withEstimate g p = made (p .round) (p .decided) (p .previous) (p .current) (p .suspected) (p .outbox) g (p .received)
 
 abbrev pub withReceived : List ℕ → Process → Process
-withReceived l p = whole (p .round) (p .decided) (p .previous) (p .current) (p .suspected) (p .outbox) (p .estimate) l
+withReceived l p = made (p .round) (p .decided) (p .previous) (p .current) (p .suspected) (p .outbox) (p .estimate) l

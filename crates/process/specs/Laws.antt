@@ -13,10 +13,10 @@ use lib.Seq.{getD-set-same, getD-set-other}
 use Rattle.sets.specs.Set.{has, insertOf, removeOf}
 use Rattle.sets.specs.Lists.{each}
 use Rattle.sets.specs.EachLaws.{each-getD}
-use Rattle.sets.specs.Truth.{_&&_, _||_, same, below, choose}
-use Rattle.sets.specs.TruthLaws.{Is, on, off, is, and-l, and-r, and-mk, and-cases, and-on-l, or-mk-l}
+use Rattle.sets.specs.Truth.{_and_, _or_, same, less, select}
+use Rattle.sets.specs.TruthLaws.{Is, on, off, is, and-first, and-second, and-mk, and-cases, and-on-l, or-mk-l}
 use Rattle.sets.specs.TruthLaws.{or-mk-r, or-off-l, or-none-l, or-none-r, not-on, not-off, off-by, clash}
-use Rattle.sets.specs.TruthLaws.{same-on, same-mk, same-off, same-not, eq-or, choose-on, choose-off, choose-by}
+use Rattle.sets.specs.TruthLaws.{same-on, same-mk, same-off, same-not, eq-or, select-on, select-off, select-by}
 use Rattle.sets.specs.Laws.{has-insert, has-remove, has-union, has-intersection, has-difference, has-all}
 use Rattle.sets.specs.Laws.{nothing-in, empty-by, all-lt, insert-lt, remove-lt, difference-lt, intersection-lt}
 use Rattle.global_data.specs.declared.GlobalData.{GlobalData}
@@ -33,76 +33,76 @@ use Rattle.process.specs.Steps.{closeOf, adoptOf, sendOf, suspectOf}
 
 -- the sets of l, with y in the one at `at`, each written anew
 unfoldable pub wordsWith : List ℕ → ℕ → ℕ → List ℕ
-wordsWith l at y = each 16 (λ j. choose (same at j) (insertOf (getD l j 0) y) (getD l j 0))
+wordsWith l at y = each 16 (λ j. select (same at j) (insertOf (getD l j 0) y) (getD l j 0))
 
 module _ (l : List ℕ) (at y : ℕ) (e : length l ≡ 16) where
   -- the one at `at` changes
   pub words-set : at < 16 → wordsWith l at y ≡ set l at (insertOf (getD l at 0) y)
   unfolding wordsWith
   words-set h =
-      sym (each-getD 16 (λ j. choose (same at j) (insertOf (getD l j 0) y) (getD l j 0)) 0
+      sym (each-getD 16 (λ j. select (same at j) (insertOf (getD l j 0) y) (getD l j 0)) 0
       (set l at (insertOf (getD l at 0) y))
       (length-set l at (insertOf (getD l at 0) y) ∙ e) (λ k b. go k (eq-or at k)))
     where
       go : (k : ℕ) → (at ≡ k) ⊎ (at ≢ k)
-          → getD (set l at (insertOf (getD l at 0) y)) k 0 ≡ choose (same at k) (insertOf (getD l k 0) y) (getD l k 0)
+          → getD (set l at (insertOf (getD l at 0) y)) k 0 ≡ select (same at k) (insertOf (getD l k 0) y) (getD l k 0)
       go k (inl p) =
-          rw (choose-on (same at k) (insertOf (getD l k 0) y) (getD l k 0) (same-mk at k p), ← p)
+          rw (select-on (same at k) (insertOf (getD l k 0) y) (getD l k 0) (same-mk at k p), ← p)
           (getD-set-same l at (insertOf (getD l at 0) y) 0 (omega arith))
       go k (inr p) =
-          rw (choose-off (same at k) (insertOf (getD l k 0) y) (getD l k 0) (same-off at k p))
+          rw (select-off (same at k) (insertOf (getD l k 0) y) (getD l k 0) (same-off at k p))
           (getD-set-other l at k (insertOf (getD l at 0) y) 0 (λ q. p (sym q)))
 
   -- past the last, none does
   pub words-kept : 16 ≤ at → wordsWith l at y ≡ l
   unfolding wordsWith
   words-kept h =
-      sym (each-getD 16 (λ j. choose (same at j) (insertOf (getD l j 0) y) (getD l j 0)) 0 l e
+      sym (each-getD 16 (λ j. select (same at j) (insertOf (getD l j 0) y) (getD l j 0)) 0 l e
       (λ k b.
-      sym (choose-off (same at k) (insertOf (getD l k 0) y) (getD l k 0) (same-off at k (λ p. omega (arith, p))))))
+      sym (select-off (same at k) (insertOf (getD l k 0) y) (getD l k 0) (same-off at k (λ p. omega (arith, p))))))
 
 -- step 3 with every set written anew; `at` is past the last where the estimate is not kept
 pub receive-words : (y r at : ℕ) (p : Process) → length (p .received) ≡ 16 → r ≤ 16 → 1 ≤ r
-    → at ≡ choose (keeps p y r) (r - 1) 16
+    → at ≡ select (keeps p y r) (r - 1) 16
     → withReceived (wordsWith (p .received) at y) p ≡ receiveOf y r p
 unfolding receiveOf
 receive-words y r at p e h l a = go (is (keeps p y r))
   where
     go : Is (keeps p y r) → withReceived (wordsWith (p .received) at y) p ≡ receiveOf y r p
     go (on k) =
-        let b : at ≡ r - 1 = a ∙ choose-on (keeps p y r) (r - 1) 16 k in
-        rw (choose-on (keeps p y r) _ p k, words-set (p .received) at y e (omega arith), b)
+        let b : at ≡ r - 1 = a ∙ select-on (keeps p y r) (r - 1) 16 k in
+        rw (select-on (keeps p y r) _ p k, words-set (p .received) at y e (omega arith), b)
     go (off k) =
-        let b : at ≡ 16 = a ∙ choose-off (keeps p y r) (r - 1) 16 k in
-        rw (choose-off (keeps p y r) _ p k, words-kept (p .received) at y e (omega arith))
+        let b : at ≡ 16 = a ∙ select-off (keeps p y r) (r - 1) 16 k in
+        rw (select-off (keeps p y r) _ p k, words-kept (p .received) at y e (omega arith))
 
 module _ (n t a : ℕ) (rows : ℕ → GlobalData) (p : Process) where
   pub close-on : decidesOf n t a rows p ≡ true → closeOf n t a rows p ≡ decideOf (filledOf a rows p) (owedOf n a p) p
   unfolding closeOf
-  close-on = choose-on _ _ _
+  close-on = select-on _ _ _
 
   pub close-off : decidesOf n t a rows p ≡ false → closeOf n t a rows p ≡ advanceOf a (filledOf a rows p) p
   unfolding closeOf
-  close-off = choose-off _ _ _
+  close-off = select-off _ _ _
 
-  close-by : (P : Process → Type 0)
+  pub close-by : (P : Process → Type 0)
       → (decidesOf n t a rows p ≡ true → P (decideOf (filledOf a rows p) (owedOf n a p) p))
       → (decidesOf n t a rows p ≡ false → P (advanceOf a (filledOf a rows p) p)) → P (closeOf n t a rows p)
   unfolding closeOf
-  close-by P = choose-by P _ _ _
+  close-by P = select-by P _ _ _
 
 module _ (n a k : ℕ) (g : GlobalData) (p : Process) where
   pub adopt-on : takesPart p ≡ true → adoptOf n a k g p ≡ decideOf g (removeOf (owedOf n a p) k) p
   unfolding adoptOf
-  adopt-on = choose-on _ _ _
+  adopt-on = select-on _ _ _
 
   pub adopt-off : takesPart p ≡ false → adoptOf n a k g p ≡ p
   unfolding adoptOf
-  adopt-off = choose-off _ _ _
+  adopt-off = select-off _ _ _
 
   adopt-by : (P : Process → Type 0) → P (decideOf g (removeOf (owedOf n a p) k) p) → P p → P (adoptOf n a k g p)
   unfolding adoptOf
-  adopt-by P x y = choose-by P _ _ _ (λ e. x) (λ e. y)
+  adopt-by P x y = select-by P _ _ _ (λ e. x) (λ e. y)
 
 -- ---- who has decided: step 6 says so, whatever the byte was, and no other step changes it
 module _ (p : Process) where
@@ -132,23 +132,23 @@ module _ (p : Process) where
 
   pub receive-decided : (y r : ℕ) → hasDecided (receiveOf y r p) ≡ hasDecided p
   unfolding hasDecided receiveOf
-  receive-decided y r = choose-by (λ (q : Process). hasDecided q ≡ hasDecided p) _ _ _ (λ e. refl) (λ e. refl)
+  receive-decided y r = select-by (λ (q : Process). hasDecided q ≡ hasDecided p) _ _ _ (λ e. refl) (λ e. refl)
 
 -- ---- who is in which set
 module _ (a : ℕ) (p : Process) (y : ℕ) where
-  pub has-arrived : has (arrivedOf a p) y ≡ (same y a || has (getD (p .received) (p .round - 1) 0) y)
+  pub has-arrived : has (arrivedOf a p) y ≡ (same y a or has (getD (p .received) (p .round - 1) 0) y)
   unfolding arrivedOf
   has-arrived = has-insert _ _ _
 
-  pub has-next : has (nextOf a p) y ≡ (has (p .current) y && has (arrivedOf a p) y)
+  pub has-next : has (nextOf a p) y ≡ (has (p .current) y and has (arrivedOf a p) y)
   unfolding nextOf
   has-next = has-intersection _ _ _
 
-  pub has-peers : has (peersOf a p) y ≡ (has (nextOf a p) y && not (same y a))
+  pub has-peers : has (peersOf a p) y ≡ (has (nextOf a p) y and not (same y a))
   unfolding peersOf
   has-peers = has-remove _ _ _
 
-  pub has-owed : (n : ℕ) → has (owedOf n a p) y ≡ ((below y n && not (same y a)) && not (has (p .suspected) y))
+  pub has-owed : (n : ℕ) → has (owedOf n a p) y ≡ ((less y n and not (same y a)) and not (has (p .suspected) y))
   unfolding owedOf
   has-owed n =
       rw (has-difference, has-remove, has-all)
@@ -156,31 +156,32 @@ module _ (a : ℕ) (p : Process) (y : ℕ) where
 -- a close is due exactly when each member of the current set has arrived or is suspected
 module _ (a : ℕ) (p : Process) where
   pub due-on : dueOf a p ≡ true → (y : ℕ) → has (p .current) y ≡ true
-      → (has (arrivedOf a p) y || has (p .suspected) y) ≡ true
+      → (has (arrivedOf a p) y or has (p .suspected) y) ≡ true
   unfolding dueOf
   due-on e y h =
       let z = sym (has-difference _ _ y) ∙ nothing-in _ (same-on _ _ e) y in
       sym (has-union _ _ y) ∙ not-off _ (sym (and-on-l _ _ h) ∙ z)
 
   pub due-mk : (n : ℕ) → p .current < 2 ^ n
-      → ((y : ℕ) → has (p .current) y ≡ true → (has (arrivedOf a p) y || has (p .suspected) y) ≡ true)
+      → ((y : ℕ) → has (p .current) y ≡ true → (has (arrivedOf a p) y or has (p .suspected) y) ≡ true)
       → dueOf a p ≡ true
   unfolding dueOf
   due-mk n l h =
       same-mk _ _
       (empty-by n _ (difference-lt n _ _ l)
       (λ y k.
-      has-difference _ _ y ∙ off-by _ (λ e. clash _ (has-union _ _ y ∙ h y (and-l _ _ e)) (not-on _ (and-r _ _ e)))))
+      has-difference _ _ y ∙ off-by _ (λ e. clash _ (has-union _ _ y
+      ∙ h y (and-first _ _ e)) (not-on _ (and-second _ _ e)))))
 
 -- ---- step 5: when a close decides
 module _ (n t a : ℕ) (rows : ℕ → GlobalData) (p : Process) where
   -- by one ground or the other
-  pub decides-is : decidesOf n t a rows p ≡ (same (p .round) (t + 1) || agreedOf n a rows p)
-  unfolding decidesOf closingOf closingNumber opensNext same choose _||_
+  pub decides-is : decidesOf n t a rows p ≡ (same (p .round) (t + 1) or agreedOf n a rows p)
+  unfolding decidesOf closingOf closingNumber opensNext same select _or_
   decides-is = go (is (same (p .round) (t + 1))) (is (agreedOf n a rows p))
     where
       go : Is (same (p .round) (t + 1)) → Is (agreedOf n a rows p)
-          → decidesOf n t a rows p ≡ (same (p .round) (t + 1) || agreedOf n a rows p)
+          → decidesOf n t a rows p ≡ (same (p .round) (t + 1) or agreedOf n a rows p)
       go (on e) (on f) = simp (e, f)
       go (on e) (off f) = simp (e, f)
       go (off e) (on f) = simp (e, f)
@@ -202,19 +203,19 @@ module _ (n t a : ℕ) (rows : ℕ → GlobalData) (p : Process) where
 
     pub decides-set : p .previous ≡ nextOf a p
     unfolding agreedOf
-    decides-set = same-on _ _ (and-l _ _ decides-agreed)
+    decides-set = same-on _ _ (and-first _ _ decides-agreed)
 
     pub decides-own : sameTo n (filledOf a rows p) (p .estimate) ≡ true
     unfolding agreedOf
-    decides-own = and-l _ _ (and-r _ _ decides-agreed)
+    decides-own = and-first _ _ (and-second _ _ decides-agreed)
 
     pub decides-peers : allSame 16 n (peersOf a p) rows (filledOf a rows p) ≡ true
     unfolding agreedOf
-    decides-peers = and-r _ _ (and-r _ _ decides-agreed)
+    decides-peers = and-second _ _ (and-second _ _ decides-agreed)
 
   -- where it does not decide, the round is not the last, and a part of the test fails
   module _ (e : decidesOf n t a rows p ≡ false) where
-    neither : (same (p .round) (t + 1) || agreedOf n a rows p) ≡ false
+    neither : (same (p .round) (t + 1) or agreedOf n a rows p) ≡ false
     neither = sym (decides-is) ∙ e
 
     pub open-round : p .round ≢ t + 1
@@ -333,7 +334,7 @@ module _ (n t : ℕ) where
     pub within-receive : (y r : ℕ) → y < n → Within n t (receiveOf y r p)
     unfolding receiveOf
     within-receive y r h =
-        choose-by (Within n t) _ _ _
+        select-by (Within n t) _ _ _
         (λ e.
         record {
           round = w .round;
@@ -406,7 +407,7 @@ module _ (p : Process) where
 
   pub receive-length : (y r : ℕ) → Kept p (receiveOf y r p)
   unfolding receiveOf
-  receive-length y r = choose-by (Kept p) _ _ _ (λ e. simp length-set) (λ e. refl)
+  receive-length y r = select-by (Kept p) _ _ _ (λ e. simp length-set) (λ e. refl)
 
   pub decide-length : (g : GlobalData) (m : ℕ) → Kept p (decideOf g m p)
   unfolding decideOf

@@ -5,22 +5,22 @@ use mathlib.Core.Bool.{Bool, not}
 use Prim.Native.Nat.{ℕ, _+_, _-_}
 use lib.ListN.{getD, set, replicate}
 use Rattle.sets.specs.Set.{has, insertOf, removeOf, unionOf, intersectionOf, differenceOf, allOf, emptySet}
-use Rattle.sets.specs.Truth.{_&&_, _||_, same, below, choose}
+use Rattle.sets.specs.Truth.{_and_, _or_, same, less, select}
 use Rattle.global_data.specs.declared.GlobalData.{GlobalData}
 use Rattle.global_data.specs.GlobalData.{noData, nothingOf, oneOf, fillFrom, sameTo, allSame}
 use Rattle.process.specs.declared.Process.{Process}
 use Rattle.process.specs.declared.Closing.{Closing}
 use Rattle.process.specs.declared.Closing.the-variants.{None, NextRound, Agreed, LastRound}
-use Rattle.process.specs.Fields.{whole, withRound, withDecided, withPrevious, withCurrent}
+use Rattle.process.specs.Fields.{made, withRound, withDecided, withPrevious, withCurrent}
 use Rattle.process.specs.Fields.{withSuspected, withOutbox, withEstimate, withReceived}
 
 -- what stands outside an array of processes
 abbrev pub noProcess : Process
-noProcess = whole 0 0 0 0 0 0 noData []
+noProcess = made 0 0 0 0 0 0 noData []
 
 -- a process that has not started
 unfoldable pub idleOf : Process
-idleOf = whole 0 0 emptySet emptySet emptySet emptySet nothingOf (replicate 16 emptySet)
+idleOf = made 0 0 emptySet emptySet emptySet emptySet nothingOf (replicate 16 emptySet)
 
 -- it has decided: every byte but 0 says so
 unfoldable pub hasDecided : Process → Bool
@@ -28,32 +28,29 @@ hasDecided p = not (same (p .decided) 0)
 
 -- it has started and not decided
 unfoldable pub takesPart : Process → Bool
-takesPart p = below 0 (p .round) && not (hasDecided p)
-
--- ---- step 1, start: the estimate is absent but for its own value; previous: all n;
--- current: all n without those it suspects
-abbrev pub begunOf : ℕ → ℕ → ℕ → Process → Process
-begunOf n a v p =
-    withEstimate (oneOf a v)
-    (withPrevious (allOf n) (withCurrent (differenceOf (allOf n) (p .suspected)) (withRound 0 p)))
+takesPart p = less 0 (p .round) and not (hasDecided p)
 
 -- ---- step 2, opening a round: it owes its estimate to each other member of its current set.
 -- Which estimate that is, the bench holds.
 unfoldable pub openRoundOf : ℕ → Process → Process
 openRoundOf a p = withOutbox (removeOf (p .current) a) (withRound (p .round + 1) p)
 
--- steps 1 and 2 together: round 1 opens
+-- ---- step 1, start with v: the estimate is absent but for its own value; previous: all n; current: all n without
+-- those it suspects; round 1 opens
 unfoldable pub startOf : ℕ → ℕ → ℕ → Process → Process
-startOf n a v p = openRoundOf a (begunOf n a v p)
+startOf n a v p =
+    openRoundOf a
+    (withEstimate (oneOf a v)
+    (withPrevious (allOf n) (withCurrent (differenceOf (allOf n) (p .suspected)) (withRound 0 p))))
 
--- ---- step 3, arrival of an estimate of round r from y: kept for a round not yet reached, or for this round from the
--- current set; else nothing changes
+-- ---- step 3, arrival of an estimate of round r from y: an undecided process keeps it for a round not yet reached, or
+-- for this round from the current set; else nothing changes
 unfoldable pub keeps : Process → ℕ → ℕ → Bool
-keeps p y r = not (hasDecided p) && (below (p .round) r || (same r (p .round) && has (p .current) y))
+keeps p y r = not (hasDecided p) and (less (p .round) r or (same r (p .round) and has (p .current) y))
 
 unfoldable pub receiveOf : ℕ → ℕ → Process → Process
 receiveOf y r p =
-    choose (keeps p y r)
+    select (keeps p y r)
     (withReceived (set (p .received) (r - 1) (insertOf (getD (p .received) (r - 1) 0) y)) p) p
 
 -- ---- step 4, close: whose estimate of this round has arrived, its own among them
@@ -72,8 +69,8 @@ nextOf a p = intersectionOf (p .current) (arrivedOf a p)
 unfoldable pub peersOf : ℕ → Process → ℕ
 peersOf a p = removeOf (nextOf a p) a
 
--- each absent entry takes the value that the lowest-numbered member of the next set shows.
--- `rows p` is what process p sent in this round.
+-- each absent entry takes the value of the lowest-numbered member of the next set that shows one.
+-- `rows y` is what process y sent in this round.
 unfoldable pub filledOf : ℕ → (ℕ → GlobalData) → Process → GlobalData
 filledOf a rows p = fillFrom 16 (peersOf a p) rows (p .estimate)
 
@@ -82,15 +79,12 @@ filledOf a rows p = fillFrom 16 (peersOf a p) rows (p .estimate)
 unfoldable pub agreedOf : ℕ → ℕ → (ℕ → GlobalData) → Process → Bool
 agreedOf n a rows p =
     same (p .previous) (nextOf a p)
-    && (sameTo n (filledOf a rows p) (p .estimate) && allSame 16 n (peersOf a p) rows (filledOf a rows p))
+    and (sameTo n (filledOf a rows p) (p .estimate) and allSame 16 n (peersOf a p) rows (filledOf a rows p))
 
--- how the round ends (request C-11), by what the test says: where it is t + 1 by the last round, whatever that is;
--- else agreed if the test holds; else the next round opens
-abbrev pub endingBy : ℕ → Bool → Process → Closing
-endingBy t agreed p = choose (same (p .round) (t + 1)) LastRound (choose agreed Agreed NextRound)
-
+-- how the round ends (request C-11): where it is t + 1 by the last round, whatever the test says; else agreed if the
+-- test holds; else the next round opens
 unfoldable pub closingOf : ℕ → ℕ → ℕ → (ℕ → GlobalData) → Process → Closing
-closingOf n t a rows p = endingBy t (agreedOf n a rows p) p
+closingOf n t a rows p = select (same (p .round) (t + 1)) LastRound (select (agreedOf n a rows p) Agreed NextRound)
 
 -- its number; 0 where there was no close
 unfoldable pub closingNumber : Closing → ℕ
@@ -120,23 +114,20 @@ owedOf n a p = differenceOf (removeOf (allOf n) a) (p .suspected)
 unfoldable pub decideOf : GlobalData → ℕ → Process → Process
 decideOf g m p = withEstimate g (withOutbox m (withDecided 1 p))
 
--- steps 4 to 6 together, by whether it decides
-abbrev pub closedBy : Bool → ℕ → ℕ → (ℕ → GlobalData) → Process → Process
-closedBy decides n a rows p =
-    let g = filledOf a rows p in
-    choose decides (decideOf g (owedOf n a p) p) (advanceOf a g p)
-
+-- steps 4 to 6 together
 unfoldable pub closeOf : ℕ → ℕ → ℕ → (ℕ → GlobalData) → Process → Process
-closeOf n t a rows p = closedBy (decidesOf n t a rows p) n a rows p
+closeOf n t a rows p =
+    let g = filledOf a rows p in
+    select (decidesOf n t a rows p) (decideOf g (owedOf n a p) p) (advanceOf a g p)
 
 -- ---- step 7, a decision g of k arrives: a started undecided process takes it over,
 -- and does not owe it to k; any other is unchanged
 unfoldable pub adoptOf : ℕ → ℕ → ℕ → GlobalData → Process → Process
-adoptOf n a k g p = choose (takesPart p) (decideOf g (removeOf (owedOf n a p) k) p) p
+adoptOf n a k g p = select (takesPart p) (decideOf g (removeOf (owedOf n a p) k) p) p
 
 -- ---- a send: its message is 0, the decision, once it has decided, else the estimate of its round
 unfoldable pub messageOf : Process → ℕ
-messageOf p = choose (hasDecided p) 0 (p .round)
+messageOf p = select (hasDecided p) 0 (p .round)
 
 -- what it owed b it no longer owes
 unfoldable pub sendOf : ℕ → Process → Process

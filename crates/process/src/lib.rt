@@ -1,15 +1,15 @@
-// One process's own part in the protocol: what it holds, and its steps. A host with a real network can drive it.
+// One process's own part in the protocol: what it holds, and its steps. The node, which comes later, is to be built
+// on it.
 ghost use mathlib.Core.Path.{_≡_};
-ghost use Prim.Native.Nat.{ℕ, _<_, _≤_};
+ghost use Prim.Native.Nat.{_<_, _≤_};
 ghost use lib.ListN.{length};
-ghost use Rattle.global_data.specs.GlobalData.{allSame, rowsOf};
-ghost use Rattle.process.specs.Fields.{withEstimate};
+ghost use Rattle.global_data.specs.GlobalData.{rowsOf};
 ghost use Rattle.process.specs.Steps.{idleOf, hasDecided, takesPart, openRoundOf, startOf, keeps, receiveOf};
-ghost use Rattle.process.specs.Steps.{arrivedOf, dueOf, nextOf, peersOf, closingOf, opensNext, owedOf};
+ghost use Rattle.process.specs.Steps.{arrivedOf, dueOf, nextOf, closingOf, opensNext, owedOf};
 ghost use Rattle.process.specs.Steps.{decideOf, closeOf, adoptOf, messageOf, sendOf, suspectOf};
-ghost use Rattle.process.specs.ClosingLaws.{closingBy};
+ghost use Rattle.process.specs.ClosingLaws.{closingBy, finishOf};
 ghost use Rattle.process.specs.Laws.{wordsWith};
-ghost use Rattle.sets.specs.Truth.{choose};
+ghost use Rattle.sets.specs.Truth.{select};
 ghost use Rattle.sets.specs.Set.{insertOf};
 use global_data::GlobalData;
 use global_data::fill_words;
@@ -69,7 +69,7 @@ impl Closing {
 // A set, with y in it where `put` says so.
 fn word_with(m: u16, put: bool, y: usize) -> u16
     requires { ⌜ y < 16 ⌝ }
-    ensures { λ r. ⌜ r ≡ choose put (insertOf m y) m ⌝ }
+    ensures { λ r. ⌜ r ≡ select put (insertOf m y) m ⌝ }
 {
     if put { sets::insert(m, y) } else { m }
 }
@@ -236,16 +236,12 @@ impl Process {
     }
 
     // Steps 4 and 5 but for the estimate, which is filled by one pass over the others' estimates (request C-16). The
-    // same pass finds whether none differs from the old one: on such estimates this is the close.
+    // same pass finds `alike`: whether none of these differs from its own old one.
     pub fn finish(self, n: usize, t: usize, a: usize, next: u16, alike: bool) -> Closed
         requires { ⌜ (n ≤ 16) × (t < 16) ⌝ }
         requires { ⌜ a < 16 ⌝ }
-        requires { ⌜ (1 ≤ self .round) × (self .round ≤ 16) ⌝ }
-        requires { ⌜ next ≡ nextOf a self ⌝ }
-        ensures { λ r. ⌜ ((rows : ℕ → GlobalData)
-            → alike ≡ allSame 16 n (peersOf a self) rows (self .estimate)
-            → (r .process ≡ withEstimate (self .estimate) (closeOf n t a rows self))
-            × (r .closing ≡ closingOf n t a rows self)) ⌝ }
+        requires { ⌜ self .round < 255 ⌝ }
+        ensures { λ r. ⌜ (r .process ≡ finishOf n t a next alike self) × (r .closing ≡ closingBy t next alike self) ⌝ }
     {
         let closing = self.ending(t, next, alike);
         // what changes is set in place: a process that either arm gave would be copied once more
@@ -265,7 +261,8 @@ impl Process {
     }
 
     // Steps 4 and 5: it closes its round, where `rows` has what each process sent in it. run, which has the rows where
-    // they lie, makes the same pass there.
+    // they lie, makes the same pass there. This has no caller yet: the node (what one site itself runs), which comes
+    // later, is its caller.
     pub fn close(self, n: usize, t: usize, a: usize, rows: [GlobalData; 16]) -> Closed
         requires { ⌜ (n ≤ 16) × (t < 16) ⌝ }
         requires { ⌜ a < 16 ⌝ }

@@ -7,11 +7,11 @@ use global_data::diet_fits;
 use global_data::value_in;
 ghost use mathlib.Core.Path.{_≡_};
 ghost use mathlib.Core.Bool.{true, not};
-ghost use Prim.Native.Nat.{_-_};
-ghost use Rattle.bench.specs.Record.{wordOf, usesB, fieldB, fieldR, fieldValue};
+ghost use Prim.Native.Nat.{_+_, _-_};
+ghost use Rattle.bench.specs.Record.{wordOf, usesB};
 ghost use Rattle.bench.specs.Record.{fields, messageFrom, eventOf, partsOf, checkDiet, decodeOf};
 ghost use Rattle.global_data.specs.GlobalData.{valueIn, dietFits};
-ghost use Rattle.sets.specs.Truth.{_||_, same, oneTo};
+ghost use Rattle.sets.specs.Truth.{_and_, _or_, same, less, oneTo, select};
 
 fn word(a: u8, b: u8, c: u8, d: u8) -> u32
     ensures { λ r. ⌜ r ≡ wordOf a b c d ⌝ }
@@ -26,7 +26,7 @@ fn uses_b(kind: u8) -> bool
 }
 
 fn field_b(n: u8, kind: u8, a: u8, b: u8) -> bool
-    ensures { λ r. ⌜ r ≡ fieldB n kind a b ⌝ }
+    ensures { λ r. ⌜ r ≡ select (usesB kind) (oneTo n b and not (same a b)) (same b 0) ⌝ }
 {
     if uses_b(kind) {
         sets::one_to(n, b) & (a != b)
@@ -36,7 +36,7 @@ fn field_b(n: u8, kind: u8, a: u8, b: u8) -> bool
 }
 
 fn field_r(t: u8, kind: u8, r: u8) -> bool
-    ensures { λ res. ⌜ res ≡ fieldR t kind r ⌝ }
+    ensures { λ res. ⌜ res ≡ select (same kind 3) (less r (t + 2)) (same r 0) ⌝ }
 {
     if kind == 3 {
         (r as u16) < (t as u16) + 2
@@ -46,7 +46,7 @@ fn field_r(t: u8, kind: u8, r: u8) -> bool
 }
 
 fn field_value(kind: u8, v: u32) -> bool
-    ensures { λ r. ⌜ r ≡ fieldValue kind v ⌝ }
+    ensures { λ r. ⌜ r ≡ (same kind 1 or same v 0) ⌝ }
 {
     (kind == 1) | (v == 0)
 }
@@ -99,7 +99,7 @@ fn event(kind: u8, a: usize, b: usize, r: u8, v: u32) -> Event
 
 // The diet portions do not exceed the portions, where the record is a start.
 fn diet_ok(kind: u8, v: u32) -> bool
-    ensures { λ r. ⌜ r ≡ (not (same kind 1) || dietFits (valueIn v)) ⌝ }
+    ensures { λ r. ⌜ r ≡ (not (same kind 1) or dietFits (valueIn v)) ⌝ }
 {
     (kind != 1) | diet_fits(value_in(v))
 }

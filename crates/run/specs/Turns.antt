@@ -10,18 +10,18 @@ use native.Mathlib.Omega.{arith}
 use lib.ListN.{length, getD, set, take, drop, length-take, length-drop}
 use lib.Seq.{drop-drop}
 use Rattle.sets.specs.Set.{insertOf, removeOf}
-use Rattle.sets.specs.Truth.{choose, _||_}
-use Rattle.sets.specs.TruthLaws.{and-l, Is, on, off, is, clash, choose-on, choose-off, check-zero}
+use Rattle.sets.specs.Truth.{select, _or_}
+use Rattle.sets.specs.TruthLaws.{and-first, Is, on, off, is, clash, select-on, select-off, check-zero}
 use Rattle.global_data.specs.declared.GlobalData.{GlobalData}
-use Rattle.global_data.specs.GlobalData.{noData, allSame}
+use Rattle.global_data.specs.GlobalData.{noData}
 use Rattle.global_data.specs.PassLaws.{Passing}
 use Rattle.process.specs.declared.Process.{Process}
 use Rattle.process.specs.declared.Closing.{Closing}
 use Rattle.process.specs.declared.Closing.the-variants.{None}
 use Rattle.process.specs.Laws.{decide-decided, open-round}
 use Rattle.process.specs.Fields.{withEstimate}
-use Rattle.process.specs.ClosingLaws.{close-passed}
-use Rattle.process.specs.Steps.{hasDecided, noProcess, openRoundOf, startOf, nextOf, peersOf, filledOf, closingOf}
+use Rattle.process.specs.ClosingLaws.{closingBy, finishOf, close-passed}
+use Rattle.process.specs.Steps.{hasDecided, noProcess, openRoundOf, startOf, nextOf, filledOf, closingOf}
 use Rattle.process.specs.Steps.{decidesOf, advanceOf, closeOf, messageOf, sendOf, suspectOf, receiveOf, adoptOf}
 use Rattle.bench.specs.declared.Bench.{Bench}
 use Rattle.bench.specs.declared.Refusal.{Refusal}
@@ -35,14 +35,18 @@ use Rattle.bench.specs.declared.Cause.the-variants.{Empty, Spent, Refused as Re
 use Rattle.bench.specs.State.{processAt, sentAt, transitAt, crashedAt, withProcess, withSent, withTransit, withCrashed}
 use Rattle.bench.specs.Sound.{soundOf}
 use Rattle.bench.specs.SoundLaws.{Bounds, sound-on, sound-step}
-use Rattle.bench.specs.Record.{decodeOf}
+use Rattle.bench.specs.Record.{decodeOf, v2, decodeAs}
 use Rattle.bench.specs.RecordLaws.{messageIn, inRange, decode-size, decode-refused, decode-range}
 use Rattle.bench.specs.Refuse.{numberOf, actor, isCrash, passes7, passes8, passes9, refuses, refusal}
 use Rattle.bench.specs.RefuseLaws.{refusal-unread, refusal-event, accepted-effect}
-use Rattle.bench.specs.Effect.{opensRound, rowsAt, sends, arrives, closesAs, effect, effectDecoded, effectOf}
-use Rattle.bench.specs.Closings.{closingAt, closingIn, lastOf}
-use Rattle.bench.specs.ClosingLaws.{close-some, closing-event, last-none, last-close}
-use Rattle.bench.specs.Calls.{refused, rules, endedOf, runFrom, runOf}
+use Rattle.bench.specs.Effect.{opensRound, rowsAt, sends, arrives, closesAs, effect}
+use Rattle.bench.specs.RunLoop.{effectDecoded, effectBy, effectOf}
+use Rattle.bench.specs.Closings.{closingAt, lastOf}
+use Rattle.bench.specs.RunLoop.{closingIn}
+use Rattle.bench.specs.ClosingLaws.{close-some, closing-event}
+use Rattle.bench.specs.LastLaws.{last-none, last-close}
+use Rattle.bench.specs.Calls.{refused, runOf}
+use Rattle.bench.specs.RunLoop.{endedOf, runFrom}
 use Rattle.bench.specs.RunLaws.{run-empty, run-spent, run-refused, run-accepted, run-sound}
 use Rattle.checks.specs.Checks.{firstFailed, startCheck, messageCheck, closeCheck}
 use Rattle.checks.specs.Checks.{crashCheck, suspectCheck, takes-started}
@@ -53,7 +57,7 @@ pub record Running (budget : ℕ) (l : List ℕ) (b s : Bench) (at accepted : �
   pub sound : soundOf s ≡ true
   pub within-bytes : at ≤ length l
   pub within-budget : accepted ≤ budget
-  pub gives : runFrom rules (budget - accepted) (drop at l) s accepted c at ≡ runOf budget l b
+  pub gives : runFrom v2 (budget - accepted) (drop at l) s accepted c at ≡ runOf budget l b
 
 pub running-new : (budget : ℕ) (l : List ℕ) (b : Bench) → soundOf b ≡ true → Running budget l b b 0 0 None
 running-new budget l b e =
@@ -128,7 +132,7 @@ module _ (budget : ℕ) (l : List ℕ) (b s : Bench) (at accepted : ℕ) (c : Cl
       → d ≡ effect e s
       → (x : Closing) → x ≡ lastOf c (closingAt e s)
       → Running budget l b d (at + 8) (accepted + 1) x
-  unfolding effectOf effectDecoded
+  unfolding effectOf effectBy decodeAs effectDecoded
   goes e w k p z d q x y =
       let v = w .running in
       let bytes = take 8 (drop at l) in
@@ -198,9 +202,9 @@ pub message-low : (p : Process) → p .round ≤ 16 → messageOf p ≤ 16
 unfolding messageOf
 message-low p h = go (is (hasDecided p))
   where
-    go : Is (hasDecided p) → choose (hasDecided p) 0 (p .round) ≤ 16
-    go (on e) = rw (choose-on (hasDecided p) 0 (p .round) e) (omega arith)
-    go (off e) = rw (choose-off (hasDecided p) 0 (p .round) e) h
+    go : Is (hasDecided p) → select (hasDecided p) 0 (p .round) ≤ 16
+    go (on e) = rw (select-on (hasDecided p) 0 (p .round) e) (omega arith)
+    go (off e) = rw (select-off (hasDecided p) 0 (p .round) e) h
 
 -- where the code looks: the row of round r + 1 of a, and message r of a, the definition's m
 pub slot-low : (a r : ℕ) → a < 16 → r < 16 → a * 16 + r < 256
@@ -219,9 +223,9 @@ module _ (n t a : ℕ) (rows : ℕ → GlobalData) (p : Process) where
       go : Is (decidesOf n t a rows p) → (closeOf n t a rows p .round ≡ p .round + 1) × (p .round ≢ t + 1)
       go (on d) =
           clash _ (decide-decided p _ _)
-          (rw (choose-on (decidesOf n t a rows p) _ (advanceOf a (filledOf a rows p) p) d) at e)
+          (rw (select-on (decidesOf n t a rows p) _ (advanceOf a (filledOf a rows p) p) d) at e)
       go (off d) = (
-        rw (choose-off (decidesOf n t a rows p) _ (advanceOf a (filledOf a rows p) p) d),
+        rw (select-off (decidesOf n t a rows p) _ (advanceOf a (filledOf a rows p) p) d),
         open-round n t a rows p d,
       )
 
@@ -236,33 +240,33 @@ unfolding closeCheck firstFailed
 close-started crashed a p z =
     let c = check-zero _ 6 _ (omega arith) z in
     let q = check-zero _ 7 _ (omega arith) (c .1) in
-    takes-started p (and-l _ _ (q .0))
+    takes-started p (and-first _ _ (q .0))
 
 -- ---- each event's check, and its effect, on the parts of the bench
 module _ (s : Bench) where
   pub refuses-start : (a v : ℕ) → refuses (Start a v) s ≡ startCheck (s .crashed) a (processAt s a .round)
-  unfolding refuses actor isCrash passes7 passes8 passes9 _||_ crashedAt startCheck firstFailed
+  unfolding refuses actor isCrash passes7 passes8 passes9 _or_ crashedAt startCheck firstFailed
   refuses-start a v = refl
 
   pub refuses-send : (a b : ℕ) → refuses (Send a b) s ≡ messageCheck (s .crashed) a (processAt s a .outbox) b
-  unfolding refuses actor isCrash passes7 passes8 passes9 _||_ crashedAt messageCheck firstFailed
+  unfolding refuses actor isCrash passes7 passes8 passes9 _or_ crashedAt messageCheck firstFailed
   refuses-send a b = refl
 
   pub refuses-arrive : (a b : ℕ) (m : Message)
       → refuses (Arrive a b m) s ≡ messageCheck (s .crashed) b (transitAt s a (numberOf m)) b
-  unfolding refuses actor isCrash passes7 passes8 passes9 _||_ crashedAt messageCheck firstFailed
+  unfolding refuses actor isCrash passes7 passes8 passes9 _or_ crashedAt messageCheck firstFailed
   refuses-arrive a b m = refl
 
   pub refuses-close : (a : ℕ) → refuses (Close a) s ≡ closeCheck (s .crashed) a (processAt s a)
-  unfolding refuses actor isCrash passes7 passes8 passes9 _||_ crashedAt closeCheck firstFailed
+  unfolding refuses actor isCrash passes7 passes8 passes9 _or_ crashedAt closeCheck firstFailed
   refuses-close a = refl
 
   pub refuses-crash : (a : ℕ) → refuses (Crash a) s ≡ crashCheck (s .crashed) a (s .t)
-  unfolding refuses actor isCrash passes7 passes8 passes9 _||_ crashedAt crashCheck firstFailed
+  unfolding refuses actor isCrash passes7 passes8 passes9 _or_ crashedAt crashCheck firstFailed
   refuses-crash a = refl
 
   pub refuses-suspect : (a b : ℕ) → refuses (Suspect a b) s ≡ suspectCheck (s .crashed) a (processAt s a .suspected) b
-  unfolding refuses actor isCrash passes7 passes8 passes9 _||_ crashedAt suspectCheck firstFailed
+  unfolding refuses actor isCrash passes7 passes8 passes9 _or_ crashedAt suspectCheck firstFailed
   refuses-suspect a b = refl
 
   -- a crash; m is the code's set
@@ -400,10 +404,8 @@ pub record Closes (c x : Closing) (s : Bench) (a : ℕ) (q : Process) : Type 0 w
 module _ (c x : Closing) (s : Bench) (a r next seen : ℕ) (g : GlobalData) (alike : Bool) (q : Process)
     (e : r ≡ processAt s a .round - 1) (f : next ≡ nextOf a (processAt s a))
     (w : Passing (s .n) (removeOf next a) (rowsIn (s .sent) r) (processAt s a .estimate) seen 0 g alike)
-    (k : (rows : ℕ → GlobalData)
-    → alike ≡ allSame 16 (s .n) (peersOf a (processAt s a)) rows (processAt s a .estimate)
-    → (q ≡ withEstimate (processAt s a .estimate) (closeOf (s .n) (s .t) a rows (processAt s a)))
-    × (x ≡ closingOf (s .n) (s .t) a rows (processAt s a))) where
+    (few : s .n ≤ 16) (k : (q ≡ finishOf (s .n) (s .t) a next alike (processAt s a))
+    × (x ≡ closingBy (s .t) next alike (processAt s a))) where
   abbrev rows : ℕ → GlobalData
   rows = rowsAt s (processAt s a .round)
 
@@ -414,7 +416,7 @@ module _ (c x : Closing) (s : Bench) (a r next seen : ℕ) (g : GlobalData) (ali
   closed : (after ≡ closeOf (s .n) (s .t) a rows (processAt s a))
       × (x ≡ closingOf (s .n) (s .t) a rows (processAt s a))
   unfolding rowsAt sentAt
-  closed = close-passed (s .n) (s .t) a rows (processAt s a) next seen g alike q x f (rw e at w) k
+  closed = close-passed (s .n) (s .t) a rows (processAt s a) next seen g alike q x f (rw e at w) few k
 
   opened : hasDecided after ≡ false → (after .round ≡ processAt s a .round + 1) × (processAt s a .round ≢ s .t + 1)
   opened d = rw (closed .0) (close-opens (s .n) (s .t) a rows (processAt s a) (rw (closed .0) at d))
@@ -426,10 +428,10 @@ module _ (c x : Closing) (s : Bench) (a r next seen : ℕ) (g : GlobalData) (ali
         closing = closed .1 ∙ sym (last-close c _ (close-some _ _ _ _ _));
         decides =
             λ d.
-            rw (← closed .0) (sym (choose-on (hasDecided after) (withProcess s a after) (opensRound s a after) d));
+            rw (← closed .0) (sym (select-on (hasDecided after) (withProcess s a after) (opensRound s a after) d));
         opens =
             λ d i j.
             opened-at s a i after j
-            ∙ rw (← closed .0) (sym (choose-off (hasDecided after) (withProcess s a after) (opensRound s a after) d));
+            ∙ rw (← closed .0) (sym (select-off (hasDecided after) (withProcess s a after) (opensRound s a after) d));
         round = λ d l m. omega (arith, opened d .0, opened d .1);
       }

@@ -21,7 +21,8 @@ ghost use mathlib.Core.Path.{_≡_};
 ghost use Prim.Native.Nat.{_-_, _<_, _≤_};
 ghost use Rattle.bench.specs.declared.Cause.the-variants.{Refused as RefusedRun};
 ghost use Rattle.bench.specs.Refuse.{numberOf};
-ghost use Rattle.bench.specs.Calls.{refused, endedOf, runOf};
+ghost use Rattle.bench.specs.Calls.{refused, runOf};
+ghost use Rattle.bench.specs.RunLoop.{endedOf};
 
 // A run that ends with a refusal.
 fn turned_away(s: Bench, accepted: u32, number: u8, closing: Closing, taken: usize) -> Ended

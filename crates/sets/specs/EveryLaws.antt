@@ -1,5 +1,5 @@
 -- Laws of `every`: what holds of each number below n, and one that fails where not every one passes, by induction
--- on n. From these, laws of `some`. Then of `everyIn`: what holds of each element of a list, by induction on it.
+-- on n. From these, laws of `someTo`. Then of `everyIn`: what holds of each element of a list, by induction on it.
 use mathlib.Core.Path.{_≡_, refl, sym, _∙_, ap}
 use mathlib.Core.Logic.{⊎-elim}
 use mathlib.Core.Bool.{Bool, true, false, not}
@@ -7,17 +7,17 @@ use mathlib.Core.List.{List, [], _∷_, List·Memᴰ as In, List·Memᴰ·head a
 use mathlib.Core.List.{List·Memᴰ·not-nil as not-in, List·Memᴰ·cases-cons as in-cases}
 use Prim.Native.Nat.{ℕ, zero, suc, _<_}
 use native.Mathlib.Omega.{arith}
-use Rattle.sets.specs.Truth.{_||_}
-use Rattle.sets.specs.TruthLaws.{and-l, and-r, and-mk, and-cases, clash, eq-or, not-on, not-off, off-by}
-use Rattle.sets.specs.TruthLaws.{both-ways, or-cases, or-mk-l, or-mk-r}
-use Rattle.sets.specs.Lists.{every, some, everyIn}
+use Rattle.sets.specs.Truth.{_or_}
+use Rattle.sets.specs.TruthLaws.{and-first, and-second, and-mk, and-cases, clash, eq-or, not-on, not-off, off-by}
+use Rattle.sets.specs.TruthLaws.{by-both, or-cases, or-mk-l, or-mk-r}
+use Rattle.sets.specs.Lists.{every, someTo, everyIn}
 
 pub every-on : (n : ℕ) (p : ℕ → Bool) → every n p ≡ true → (k : ℕ) → k < n → p k ≡ true
 unfolding every
 every-on zero p e k h = absurd (omega arith)
 every-on (suc n) p e k h =
-    ⊎-elim (λ u. rw u (and-l (p n) (every n p) e))
-    (λ u. every-on n p (and-r (p n) (every n p) e) k (omega arith)) (eq-or k n)
+    ⊎-elim (λ u. rw u (and-first (p n) (every n p) e))
+    (λ u. every-on n p (and-second (p n) (every n p) e) k (omega arith)) (eq-or k n)
 
 pub every-mk : (n : ℕ) (p : ℕ → Bool) → ((k : ℕ) → k < n → p k ≡ true) → every n p ≡ true
 unfolding every
@@ -42,41 +42,41 @@ pub every-off : (n : ℕ) (p : ℕ → Bool) (k : ℕ) → k < n → p k ≡ fal
 every-off n p k h e = off-by (every n p) (λ t. clash (p k) (every-on n p t k h) e)
 
 -- some number passes: there is one, and one is enough
-pub some-on : (n : ℕ) (p : ℕ → Bool) → some n p ≡ true → (k : ℕ) × (k < n) × (p k ≡ true)
-unfolding some
+pub some-on : (n : ℕ) (p : ℕ → Bool) → someTo n p ≡ true → (k : ℕ) × (k < n) × (p k ≡ true)
+unfolding someTo
 some-on n p e =
     let w = every-not n (λ k. not (p k)) (not-on _ e) in (w .0, w .1, not-off (p (w .0)) (w .2))
 
-pub some-mk : (n : ℕ) (p : ℕ → Bool) (k : ℕ) → k < n → p k ≡ true → some n p ≡ true
-unfolding some
+pub some-mk : (n : ℕ) (p : ℕ → Bool) (k : ℕ) → k < n → p k ≡ true → someTo n p ≡ true
+unfolding someTo
 some-mk n p k h e = ap not (every-off n (λ k. not (p k)) k h (ap not e))
 
 -- what passes one test below n passes another below m
 pub some-sub : (n m : ℕ) (p q : ℕ → Bool)
-    → ((k : ℕ) → k < n → p k ≡ true → (j : ℕ) × (j < m) × (q j ≡ true)) → some n p ≡ true → some m q ≡ true
+    → ((k : ℕ) → k < n → p k ≡ true → (j : ℕ) × (j < m) × (q j ≡ true)) → someTo n p ≡ true → someTo m q ≡ true
 some-sub n m p q h e =
     let w = some-on n p e in let v = h (w .0) (w .1) (w .2) in some-mk m q (v .0) (v .1) (v .2)
 
-pub some-cong : (n : ℕ) (p q : ℕ → Bool) → ((k : ℕ) → k < n → p k ≡ q k) → some n p ≡ some n q
+pub some-cong : (n : ℕ) (p q : ℕ → Bool) → ((k : ℕ) → k < n → p k ≡ q k) → someTo n p ≡ someTo n q
 some-cong n p q h =
-    both-ways (some n p) (some n q)
+    by-both (someTo n p) (someTo n q)
     (some-sub n n p q (λ k l e. (k, l, sym (h k l) ∙ e)))
     (some-sub n n q p (λ k l e. (k, l, h k l ∙ e)))
 
-pub some-none : (n : ℕ) (p : ℕ → Bool) → ((k : ℕ) → k < n → p k ≡ false) → some n p ≡ false
-some-none n p h = off-by (some n p) (λ e. let w = some-on n p e in clash (p (w .0)) (w .2) (h (w .0) (w .1)))
+pub some-none : (n : ℕ) (p : ℕ → Bool) → ((k : ℕ) → k < n → p k ≡ false) → someTo n p ≡ false
+some-none n p h = off-by (someTo n p) (λ e. let w = some-on n p e in clash (p (w .0)) (w .2) (h (w .0) (w .1)))
 
 -- of one number more
-pub some-suc : (n : ℕ) (p : ℕ → Bool) → some (suc n) p ≡ (p n || some n p)
+pub some-suc : (n : ℕ) (p : ℕ → Bool) → someTo (suc n) p ≡ (p n or someTo n p)
 some-suc n p =
-    both-ways (some (suc n) p) (p n || some n p)
+    by-both (someTo (suc n) p) (p n or someTo n p)
     (λ e.
     let w = some-on (suc n) p e in
-    ⊎-elim (λ u. or-mk-l (p n) (some n p) (rw u at (w .2)))
-    (λ u. or-mk-r (p n) (some n p) (some-mk n p (w .0) (omega (arith, w .1)) (w .2))) (eq-or (w .0) n))
+    ⊎-elim (λ u. or-mk-l (p n) (someTo n p) (rw u at (w .2)))
+    (λ u. or-mk-r (p n) (someTo n p) (some-mk n p (w .0) (omega (arith, w .1)) (w .2))) (eq-or (w .0) n))
     (λ e. ⊎-elim (λ u. some-mk (suc n) p n (omega arith) u)
     (λ u. let w = some-on n p u in some-mk (suc n) p (w .0) (omega (arith, w .1)) (w .2))
-    (or-cases (p n) (some n p) e))
+    (or-cases (p n) (someTo n p) e))
 
 -- every element of a list passes: then each of them does, and it is so where each does
 module _ {A : Type 0} (p : A → Bool) where
@@ -84,8 +84,8 @@ module _ {A : Type 0} (p : A → Bool) where
   unfolding everyIn
   every-in-on [] e x i = absurd (not-in i)
   every-in-on (y ∷ l) e x i =
-      ⊎-elim (λ u. rw u (and-l (p y) (everyIn p l) e))
-      (λ j. every-in-on l (and-r (p y) (everyIn p l) e) x j) (in-cases i)
+      ⊎-elim (λ u. rw u (and-first (p y) (everyIn p l) e))
+      (λ j. every-in-on l (and-second (p y) (everyIn p l) e) x j) (in-cases i)
 
   pub every-in-mk : (l : List A) → ((x : A) → In x l → p x ≡ true) → everyIn p l ≡ true
   unfolding everyIn

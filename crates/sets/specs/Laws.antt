@@ -13,10 +13,10 @@ use lib.Bits.{or-shr, xor-shr, and-le-l, and-le-r, or-lt, xor-lt, or-add-and, xo
 use lib.Count.{ones, ones-step, ones-cat, ones-ones, ones-le}
 use lib.Dec.{lit<}
 use lib.Pow.{pow-pos, pow-mono, pow-lt, pow-add, shr-shr, ones-split, ones-lt, high, shl-exact}
-use Rattle.sets.specs.Truth.{_&&_, _||_, same, below, bit}
-use Rattle.sets.specs.TruthLaws.{Is, on, off, is, off-by, both-ways, and-on-l, and-on-r, and-off-l}
-use Rattle.sets.specs.TruthLaws.{and-off-r, not-on, not-off, same-mk, same-on, below-mk, below-off, le-or, eq-or}
-use Rattle.sets.specs.Lists.{count}
+use Rattle.sets.specs.Truth.{_and_, _or_, same, less, bit}
+use Rattle.sets.specs.TruthLaws.{Is, on, off, is, off-by, by-both, and-on-l, and-on-r, and-off-l}
+use Rattle.sets.specs.TruthLaws.{and-off-r, not-on, not-off, same-mk, same-on, less-mk, less-off, le-or, eq-or}
+use Rattle.sets.specs.Lists.{countTo}
 use Rattle.sets.specs.CountLaws.{count-first, count-cong, count-mono}
 use Rattle.sets.specs.Set.{has, insertOf, removeOf, unionOf, intersectionOf, differenceOf, allOf, sizeOf}
 
@@ -63,25 +63,25 @@ unfolding has
 has-half m i = ap (λ (x : ℕ). same (x % 2) 1) (shr-shr m 1 i ∙ ap (λ (k : ℕ). m / 2 ^ k) (omega arith))
 
 -- ---- membership after union, intersection and difference
-pub has-union : (a b i : ℕ) → has (unionOf a b) i ≡ (has a i || has b i)
-unfolding has unionOf same _||_
+pub has-union : (a b i : ℕ) → has (unionOf a b) i ≡ (has a i or has b i)
+unfolding has unionOf same _or_
 has-union a b i =
     ap (λ (x : ℕ). same x 1) (digit-or a b i)
-    ∙ table (λ (x y : ℕ). same (max x y) 1 ≡ (same x 1 || same y 1)) refl refl refl refl (digit a i) (digit b i)
+    ∙ table (λ (x y : ℕ). same (max x y) 1 ≡ (same x 1 or same y 1)) refl refl refl refl (digit a i) (digit b i)
     (omega arith) (omega arith)
 
-pub has-intersection : (a b i : ℕ) → has (intersectionOf a b) i ≡ (has a i && has b i)
-unfolding has intersectionOf same _&&_
+pub has-intersection : (a b i : ℕ) → has (intersectionOf a b) i ≡ (has a i and has b i)
+unfolding has intersectionOf same _and_
 has-intersection a b i =
     ap (λ (x : ℕ). same x 1) (digit-and a b i)
-    ∙ table (λ (x y : ℕ). same (min x y) 1 ≡ (same x 1 && same y 1)) refl refl refl refl (digit a i) (digit b i)
+    ∙ table (λ (x y : ℕ). same (min x y) 1 ≡ (same x 1 and same y 1)) refl refl refl refl (digit a i) (digit b i)
     (omega arith) (omega arith)
 
-pub has-difference : (a b i : ℕ) → has (differenceOf a b) i ≡ (has a i && not (has b i))
-unfolding has differenceOf same _&&_
+pub has-difference : (a b i : ℕ) → has (differenceOf a b) i ≡ (has a i and not (has b i))
+unfolding has differenceOf same _and_
 has-difference a b i =
     ap (λ (x : ℕ). same x 1) (digit-xor a (bitAnd a b) i ∙ ap (differ (digit a i)) (digit-and a b i))
-    ∙ table (λ (x y : ℕ). same (differ x (min x y)) 1 ≡ (same x 1 && not (same y 1))) refl refl refl refl (digit a i)
+    ∙ table (λ (x y : ℕ). same (differ x (min x y)) 1 ≡ (same x 1 and not (same y 1))) refl refl refl refl (digit a i)
     (digit b i) (omega arith) (omega arith)
 
 -- ---- the empty set, one process, all
@@ -118,27 +118,27 @@ pow-low i j h =
 has-one : (i j : ℕ) → has (2 ^ i) j ≡ same j i
 unfolding has
 has-one i j =
-    both-ways (has (2 ^ i) j) (same j i)
+    by-both (has (2 ^ i) j) (same j i)
     (λ e.
     let l : j < suc i = has-low (suc i) (2 ^ i) j (pow-lt (omega arith)) e in
     same-mk j i (⊎-elim (λ k. omega arith)
     (λ k. absurd (omega (arith, pow-low i j k, same-on (digit (2 ^ i) j) 1 e))) (le-or i j)))
     (λ e. rw (same-on j i e) (has-digit (2 ^ i) i (ap (λ (x : ℕ). x % 2) (div-self (pow-pos i)))))
 
-or-swap : (a b : Bool) → (a || b) ≡ (b || a)
-unfolding _||_
+or-swap : (a b : Bool) → (a or b) ≡ (b or a)
+unfolding _or_
 or-swap true true = refl
 or-swap true false = refl
 or-swap false true = refl
 or-swap false false = refl
 
-pub has-insert : (m i j : ℕ) → has (insertOf m i) j ≡ (same j i || has m j)
+pub has-insert : (m i j : ℕ) → has (insertOf m i) j ≡ (same j i or has m j)
 unfolding insertOf unionOf
-has-insert m i j = has-union m (2 ^ i) j ∙ ap (λ (b : Bool). has m j || b) (has-one i j) ∙ or-swap (has m j) (same j i)
+has-insert m i j = has-union m (2 ^ i) j ∙ ap (λ (b : Bool). has m j or b) (has-one i j) ∙ or-swap (has m j) (same j i)
 
-pub has-remove : (m i j : ℕ) → has (removeOf m i) j ≡ (has m j && not (same j i))
+pub has-remove : (m i j : ℕ) → has (removeOf m i) j ≡ (has m j and not (same j i))
 unfolding removeOf
-has-remove m i j = has-difference m (2 ^ i) j ∙ ap (λ (b : Bool). has m j && not b) (has-one i j)
+has-remove m i j = has-difference m (2 ^ i) j ∙ ap (λ (b : Bool). has m j and not b) (has-one i j)
 
 pub all-lt : (n : ℕ) → allOf n < 2 ^ n
 unfolding allOf
@@ -152,11 +152,11 @@ all-digit n i h =
     ap (λ (x : ℕ). x / 2 ^ i % 2) f ∙ ap (λ (x : ℕ). x % 2) (high (2 ^ suc (n - suc i) - 1) i (ones-lt i))
     ∙ omega (arith, pow-suc 2 (n - suc i), pow-pos (n - suc i))
 
-pub has-all : (n i : ℕ) → has (allOf n) i ≡ below i n
+pub has-all : (n i : ℕ) → has (allOf n) i ≡ less i n
 unfolding allOf
 has-all n i =
-    ⊎-elim (λ l. has-past n (2 ^ n - 1) i (ones-lt n) l ∙ sym (below-off i n l))
-    (λ l. has-digit (2 ^ n - 1) i (all-digit n i l) ∙ sym (below-mk i n l)) (le-or n i)
+    ⊎-elim (λ l. has-past n (2 ^ n - 1) i (ones-lt n) l ∙ sym (less-off i n l))
+    (λ l. has-digit (2 ^ n - 1) i (all-digit n i l) ∙ sym (less-mk i n l)) (le-or n i)
 
 -- ---- sets with the same members are one
 pub set-ext : (k a b : ℕ) → a < 2 ^ k → b < 2 ^ k → ((i : ℕ) → i < k → has a i ≡ has b i) → a ≡ b
@@ -224,22 +224,23 @@ pub members-low : (n m : ℕ) → m < 2 ^ 16 → ((i : ℕ) → i < 16 → has m
 unfolding intersectionOf
 members-low n m hm h = rw e (omega (arith, and-le-r m (allOf n), all-lt n))
   where
-    part : (i : ℕ) → Is (has m i) → i < 16 → has m i ≡ (has m i && below i n)
-    part i (on t) l = sym (and-on-r (has m i) (below i n) (below-mk i n (h i l t)))
-    part i (off f) l = f ∙ sym (and-off-l (has m i) (below i n) f)
+    part : (i : ℕ) → Is (has m i) → i < 16 → has m i ≡ (has m i and less i n)
+    part i (on t) l = sym (and-on-r (has m i) (less i n) (less-mk i n (h i l t)))
+    part i (off f) l = f ∙ sym (and-off-l (has m i) (less i n) f)
 
     e : m ≡ intersectionOf m (allOf n)
     e = set-ext 16 m (intersectionOf m (allOf n)) hm (intersection-lt 16 m (allOf n) hm)
         (λ i l.
-        part i (is (has m i)) l ∙ sym (has-intersection m (allOf n) i ∙ ap (λ (b : Bool). has m i && b) (has-all n i)))
+        part i (is (has m i)) l ∙ sym (has-intersection m (allOf n) i
+        ∙ ap (λ (b : Bool). has m i and b) (has-all n i)))
 
 -- ---- sizes
 pub size-empty : sizeOf 0 ≡ 0
 unfolding sizeOf ones
 size-empty = refl
 
-pub size-count : (n m : ℕ) → m < 2 ^ n → sizeOf m ≡ count n (has m)
-unfolding sizeOf count
+pub size-count : (n m : ℕ) → m < 2 ^ n → sizeOf m ≡ countTo n (has m)
+unfolding sizeOf countTo
 size-count zero m h = rw (lt-one h) size-empty
 size-count (suc n) m h =
     omega (
@@ -251,9 +252,9 @@ size-count (suc n) m h =
       count-cong n (has (m / 2)) (λ i. has m (suc i)) (λ i l. has-half m i),
     )
 
-pub size-le : (n m : ℕ) → m < 2 ^ n → sizeOf m ≤ n
+pub size-most : (n m : ℕ) → m < 2 ^ n → sizeOf m ≤ n
 unfolding sizeOf
-size-le n m h = ones-le n m h
+size-most n m h = ones-le n m h
 
 pub size-all : (n : ℕ) → sizeOf (allOf n) ≡ n
 unfolding sizeOf allOf
@@ -283,14 +284,14 @@ size-union a =
     )) a
 
 -- what m shares with the set of i alone
-meet-one : (m i k : ℕ) → k < 2 ^ suc i → ((j : ℕ) → (has m j && same j i) ≡ has k j) → bitAnd m (2 ^ i) ≡ k
+meet-one : (m i k : ℕ) → k < 2 ^ suc i → ((j : ℕ) → (has m j and same j i) ≡ has k j) → bitAnd m (2 ^ i) ≡ k
 unfolding intersectionOf
 meet-one m i k hk h =
     set-ext (suc i) (bitAnd m (2 ^ i)) k
     (omega (arith, and-le-r m (2 ^ i), pow-lt {i = i} {j = suc i} (omega arith))) hk
-    (λ j l. has-intersection m (2 ^ i) j ∙ ap (λ (b : Bool). has m j && b) (has-one i j) ∙ h j)
+    (λ j l. has-intersection m (2 ^ i) j ∙ ap (λ (b : Bool). has m j and b) (has-one i j) ∙ h j)
 
-only : (m i j : ℕ) → (x : Bool) → has m i ≡ x → Is (same j i) → (has m j && same j i) ≡ (x && same j i)
+only : (m i j : ℕ) → (x : Bool) → has m i ≡ x → Is (same j i) → (has m j and same j i) ≡ (x and same j i)
 only m i j x e (on t) = rw (same-on j i t, e)
 only m i j x e (off f) = and-off-r (has m j) (same j i) f ∙ sym (and-off-r x (same j i) f)
 

@@ -15,19 +15,19 @@ use Rattle.sets.specs.TruthLaws.{same-mk, same-off}
 use Rattle.sets.specs.Laws.{has-half, remove-number}
 
 -- ---- the digits below the lowest one
-abbrev low : ℕ → ℕ → ℕ
-low = trailingZeros
+abbrev lowDigits : ℕ → ℕ → ℕ
+lowDigits = trailingZeros
 
 -- by the lowest digit: what holds of an odd number, and of an even one if of its half
 by-half : (P : ℕ → ℕ → ℕ → Type 0) → ((k n : ℕ) → n % 2 ≡ 1 → P (suc k) n 0)
-    → ((k n : ℕ) → n % 2 ≡ 0 → P k (n / 2) (low k (n / 2)) → P (suc k) n (suc (low k (n / 2))))
-    → (k n : ℕ) → 0 < n → n < 2 ^ k → P k n (low k n)
+    → ((k n : ℕ) → n % 2 ≡ 0 → P k (n / 2) (lowDigits k (n / 2)) → P (suc k) n (suc (lowDigits k (n / 2))))
+    → (k n : ℕ) → 0 < n → n < 2 ^ k → P k n (lowDigits k n)
 unfolding trailingZeros
 by-half P odd even zero n p h = absurd (omega (arith, lt-one h))
 by-half P odd even (suc k) n p h = go (n % 2) refl (λ q. by-half P odd even k (n / 2) q (omega (arith, pow-suc 2 k)))
   where
-    go : (d : ℕ) → n % 2 ≡ d → (0 < n / 2 → P k (n / 2) (low k (n / 2)))
-        → P (suc k) n (under (n % 2) (low k (n / 2)))
+    go : (d : ℕ) → n % 2 ≡ d → (0 < n / 2 → P k (n / 2) (lowDigits k (n / 2)))
+        → P (suc k) n (under (n % 2) (lowDigits k (n / 2)))
     go zero e ih = rw e (even k n e (ih (omega arith)))
     go (suc zero) e ih = rw e (odd k n e)
     go (suc (suc d)) e ih = absurd (omega arith)
@@ -41,12 +41,12 @@ no-zero : (n : ℕ) → n % 2 ≡ 0 → has n 0 ≡ false
 unfolding has
 no-zero n e = same-off _ _ (λ u. omega arith)
 
-low-in : (k n : ℕ) → 0 < n → n < 2 ^ k → (has n (low k n) ≡ true) × (low k n < k)
+low-in : (k n : ℕ) → 0 < n → n < 2 ^ k → (has n (lowDigits k n) ≡ true) × (lowDigits k n < k)
 low-in =
     by-half (λ (k n l : ℕ). (has n l ≡ true) × (l < k)) (λ k n e. (has-zero n e, omega arith))
     (λ k n e ih. (sym (has-half n _) ∙ ih .0, omega (arith, ih .1)))
 
-low-least : (k n : ℕ) → 0 < n → n < 2 ^ k → (i : ℕ) → i < low k n → has n i ≡ false
+low-least : (k n : ℕ) → 0 < n → n < 2 ^ k → (i : ℕ) → i < lowDigits k n → has n i ≡ false
 low-least =
     by-half (λ (k n l : ℕ). (i : ℕ) → i < l → has n i ≡ false) (λ k n e i b. absurd (omega arith))
     (λ k n e ih. even n e _ ih)
@@ -57,7 +57,7 @@ low-least =
     even n e l ih (suc i) b = sym (has-half n i) ∙ ih i (omega arith)
 
 -- ---- the number without its lowest digit
-low-out : (k n : ℕ) → 0 < n → n < 2 ^ k → bitAnd n (n - 1) + 2 ^ low k n ≡ n
+low-out : (k n : ℕ) → 0 < n → n < 2 ^ k → bitAnd n (n - 1) + 2 ^ lowDigits k n ≡ n
 low-out =
     by-half (λ (k n l : ℕ). bitAnd n (n - 1) + 2 ^ l ≡ n)
     (λ k n e.
@@ -66,7 +66,7 @@ low-out =
     omega (arith, and-step n (n - 1), ap (bitAnd (n / 2)) a ∙ and-self (n / 2), b, e))
     (λ k n e ih.
     let a : (n - 1) / 2 ≡ n / 2 - 1 = omega arith in
-    omega (arith, and-step n (n - 1), ap (bitAnd (n / 2)) a, ih, e, pow-suc 2 (low k (n / 2))))
+    omega (arith, and-step n (n - 1), ap (bitAnd (n / 2)) a, ih, e, pow-suc 2 (lowDigits k (n / 2))))
 
 -- ---- of a set of processes
 module _ (m : ℕ) (p : 0 < m) (h : m < 2 ^ 16) where

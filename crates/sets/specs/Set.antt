@@ -4,7 +4,7 @@ use mathlib.Core.Bool.{Bool}
 use Prim.Native.Nat.{ℕ, _-_, _/_, _%_, _^_}
 use lib.Bits.{bitAnd, bitOr, bitXor}
 use lib.Count.{ones, trailingZeros}
-use Rattle.sets.specs.Truth.{same, below}
+use Rattle.sets.specs.Truth.{same, less}
 
 -- i is in the set m
 unfoldable pub has : ℕ → ℕ → Bool
@@ -43,4 +43,4 @@ sizeOf m = ones m
 
 -- no member at or past n
 unfoldable pub within : ℕ → ℕ → Bool
-within n m = below m (2 ^ n)
+within n m = less m (2 ^ n)

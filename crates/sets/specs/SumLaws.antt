@@ -6,7 +6,7 @@ use Prim.Native.Nat.{ℕ, zero, suc, _+_, _*_, _≤_, _<_}
 use native.Mathlib.Nat.{suc-mul}
 use native.Mathlib.Omega.{arith}
 use Rattle.sets.specs.TruthLaws.{eq-or}
-use Rattle.sets.specs.Lists.{count, sumTo}
+use Rattle.sets.specs.Lists.{countTo, sumTo}
 use Rattle.sets.specs.Truth.{bit}
 
 pub sum-le : (n : ℕ) (f g : ℕ → ℕ) → ((x : ℕ) → x < n → f x ≤ g x) → sumTo n f ≤ sumTo n g
@@ -37,13 +37,13 @@ sum-same (suc n) c = omega (arith, sum-same n c, suc-mul n c)
 pub sum-bound : (n c : ℕ) (f : ℕ → ℕ) → ((x : ℕ) → x < n → f x ≤ c) → sumTo n f ≤ n * c
 sum-bound n c f h = omega (arith, sum-le n f (λ x. c) h, sum-same n c)
 
-pub sum-add : (n : ℕ) (f g : ℕ → ℕ) → sumTo n (λ x. f x + g x) ≡ sumTo n f + sumTo n g
+pub sum-both : (n : ℕ) (f g : ℕ → ℕ) → sumTo n (λ x. f x + g x) ≡ sumTo n f + sumTo n g
 unfolding sumTo
-sum-add zero f g = omega arith
-sum-add (suc n) f g = omega (arith, sum-add n f g)
+sum-both zero f g = omega arith
+sum-both (suc n) f g = omega (arith, sum-both n f g)
 
 -- a count is a sum of bits
-pub count-sum : (n : ℕ) (p : ℕ → Bool) → count n p ≡ sumTo n (λ x. bit (p x))
-unfolding sumTo count
+pub count-sum : (n : ℕ) (p : ℕ → Bool) → countTo n p ≡ sumTo n (λ x. bit (p x))
+unfolding sumTo countTo
 count-sum zero p = refl
 count-sum (suc n) p = omega (arith, count-sum n p)

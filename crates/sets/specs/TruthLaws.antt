@@ -6,7 +6,7 @@ use Prim.Native.Nat.{ℕ, _+_, _≤_, _<_}
 use native.Mathlib.Decide.{ℕ-discrete, decLe}
 use native.Mathlib.Omega.{arith}
 use lib.Dec.{eqb, ltb, eqb→eq, eqb-refl, ltb→lt, lt→ltb, T}
-use Rattle.sets.specs.Truth.{_&&_, _||_, same, below, oneTo, choose, check}
+use Rattle.sets.specs.Truth.{_and_, _or_, same, less, oneTo, select, check}
 
 -- ---- a Boolean is true or false, with the equation kept
 pub data Is : Bool → Type 0 where
@@ -25,96 +25,96 @@ off-by true h = absurd (h refl)
 off-by false h = refl
 
 -- two tests that imply each other are one
-pub both-ways : (a b : Bool) → (a ≡ true → b ≡ true) → (b ≡ true → a ≡ true) → a ≡ b
-both-ways true b f g = sym (f refl)
-both-ways false true f g = g refl
-both-ways false false f g = refl
+pub by-both : (a b : Bool) → (a ≡ true → b ≡ true) → (b ≡ true → a ≡ true) → a ≡ b
+by-both true b f g = sym (f refl)
+by-both false true f g = g refl
+by-both false false f g = refl
 
 -- ---- choice
-pub choose-on {ℓ} : {A : Type ℓ} (b : Bool) (x y : A) → b ≡ true → choose b x y ≡ x
-unfolding choose
-choose-on b x y e = rw e
+pub select-on {ℓ} : {A : Type ℓ} (b : Bool) (x y : A) → b ≡ true → select b x y ≡ x
+unfolding select
+select-on b x y e = rw e
 
-pub choose-off {ℓ} : {A : Type ℓ} (b : Bool) (x y : A) → b ≡ false → choose b x y ≡ y
-unfolding choose
-choose-off b x y e = rw e
+pub select-off {ℓ} : {A : Type ℓ} (b : Bool) (x y : A) → b ≡ false → select b x y ≡ y
+unfolding select
+select-off b x y e = rw e
 
 -- what holds of both holds of the chosen one
-pub choose-by {ℓ} : {A : Type ℓ} (P : A → Type 0) (b : Bool) (x y : A) → (b ≡ true → P x) → (b ≡ false → P y)
-    → P (choose b x y)
-unfolding choose
-choose-by P true x y f g = f refl
-choose-by P false x y f g = g refl
+pub select-by {ℓ} : {A : Type ℓ} (P : A → Type 0) (b : Bool) (x y : A) → (b ≡ true → P x) → (b ≡ false → P y)
+    → P (select b x y)
+unfolding select
+select-by P true x y f g = f refl
+select-by P false x y f g = g refl
 
 -- ---- conjunction
-pub and-l : (a b : Bool) → (a && b) ≡ true → a ≡ true
-unfolding _&&_
-and-l true b e = refl
-and-l false b e = e
+pub and-first : (a b : Bool) → (a and b) ≡ true → a ≡ true
+unfolding _and_
+and-first true b e = refl
+and-first false b e = e
 
-pub and-r : (a b : Bool) → (a && b) ≡ true → b ≡ true
-unfolding _&&_
-and-r true b e = e
-and-r false b e = clash false e refl
+pub and-second : (a b : Bool) → (a and b) ≡ true → b ≡ true
+unfolding _and_
+and-second true b e = e
+and-second false b e = clash false e refl
 
-pub and-mk : (a b : Bool) → a ≡ true → b ≡ true → (a && b) ≡ true
-unfolding _&&_
+pub and-mk : (a b : Bool) → a ≡ true → b ≡ true → (a and b) ≡ true
+unfolding _and_
 and-mk a b p q = cc
 
-pub and-off-l : (a b : Bool) → a ≡ false → (a && b) ≡ false
-unfolding _&&_
+pub and-off-l : (a b : Bool) → a ≡ false → (a and b) ≡ false
+unfolding _and_
 and-off-l a b e = cc
 
-pub and-off-r : (a b : Bool) → b ≡ false → (a && b) ≡ false
-unfolding _&&_
+pub and-off-r : (a b : Bool) → b ≡ false → (a and b) ≡ false
+unfolding _and_
 and-off-r true b e = e
 and-off-r false b e = refl
 
-pub and-on-l : (a b : Bool) → a ≡ true → (a && b) ≡ b
-unfolding _&&_
+pub and-on-l : (a b : Bool) → a ≡ true → (a and b) ≡ b
+unfolding _and_
 and-on-l a b e = cc
 
-pub and-on-r : (a b : Bool) → b ≡ true → (a && b) ≡ a
-unfolding _&&_
+pub and-on-r : (a b : Bool) → b ≡ true → (a and b) ≡ a
+unfolding _and_
 and-on-r true b e = e
 and-on-r false b e = refl
 
-pub and-cases : (a b : Bool) → (a && b) ≡ false → (a ≡ false) ⊎ (b ≡ false)
-unfolding _&&_
+pub and-cases : (a b : Bool) → (a and b) ≡ false → (a ≡ false) ⊎ (b ≡ false)
+unfolding _and_
 and-cases true b e = inr e
 and-cases false b e = inl refl
 
 -- ---- disjunction
-pub or-cases : (a b : Bool) → (a || b) ≡ true → (a ≡ true) ⊎ (b ≡ true)
-unfolding _||_
+pub or-cases : (a b : Bool) → (a or b) ≡ true → (a ≡ true) ⊎ (b ≡ true)
+unfolding _or_
 or-cases true b e = inl refl
 or-cases false b e = inr e
 
-pub or-mk-l : (a b : Bool) → a ≡ true → (a || b) ≡ true
-unfolding _||_
+pub or-mk-l : (a b : Bool) → a ≡ true → (a or b) ≡ true
+unfolding _or_
 or-mk-l a b p = cc
 
-pub or-mk-r : (a b : Bool) → b ≡ true → (a || b) ≡ true
-unfolding _||_
+pub or-mk-r : (a b : Bool) → b ≡ true → (a or b) ≡ true
+unfolding _or_
 or-mk-r true b p = refl
 or-mk-r false b p = p
 
-pub or-off-l : (a b : Bool) → a ≡ false → (a || b) ≡ b
-unfolding _||_
+pub or-off-l : (a b : Bool) → a ≡ false → (a or b) ≡ b
+unfolding _or_
 or-off-l a b e = cc
 
-pub or-off-r : (a b : Bool) → b ≡ false → (a || b) ≡ a
-unfolding _||_
+pub or-off-r : (a b : Bool) → b ≡ false → (a or b) ≡ a
+unfolding _or_
 or-off-r true b e = refl
 or-off-r false b e = e
 
-pub or-none-l : (a b : Bool) → (a || b) ≡ false → a ≡ false
-unfolding _||_
+pub or-none-l : (a b : Bool) → (a or b) ≡ false → a ≡ false
+unfolding _or_
 or-none-l true b e = e
 or-none-l false b e = refl
 
-pub or-none-r : (a b : Bool) → (a || b) ≡ false → b ≡ false
-unfolding _||_
+pub or-none-r : (a b : Bool) → (a or b) ≡ false → b ≡ false
+unfolding _or_
 or-none-r true b e = clash true refl e
 or-none-r false b e = e
 
@@ -149,23 +149,23 @@ same-off x y h = off-by (same x y) (λ e. h (same-on x y e))
 pub same-not : (x y : ℕ) → same x y ≡ false → x ≢ y
 same-not x y e h = clash (same x y) (same-mk x y h) e
 
-pub below-on : (x y : ℕ) → below x y ≡ true → x < y
-unfolding below
-below-on x y e = ltb→lt x y (rw e tt)
+pub less-on : (x y : ℕ) → less x y ≡ true → x < y
+unfolding less
+less-on x y e = ltb→lt x y (rw e tt)
 
-pub below-mk : (x y : ℕ) → x < y → below x y ≡ true
-unfolding below
-below-mk x y h = true-of (ltb x y) (lt→ltb x y h)
+pub less-mk : (x y : ℕ) → x < y → less x y ≡ true
+unfolding less
+less-mk x y h = true-of (ltb x y) (lt→ltb x y h)
 
-pub below-not : (x y : ℕ) → below x y ≡ false → y ≤ x
-below-not x y e = go (decLe y x)
+pub less-not : (x y : ℕ) → less x y ≡ false → y ≤ x
+less-not x y e = go (decLe y x)
   where
     go : Dec (y ≤ x) → y ≤ x
     go (yes h) = h
-    go (no h) = clash (below x y) (below-mk x y (omega arith)) e
+    go (no h) = clash (less x y) (less-mk x y (omega arith)) e
 
-pub below-off : (x y : ℕ) → y ≤ x → below x y ≡ false
-below-off x y h = off-by (below x y) (λ e. omega (arith, below-on x y e))
+pub less-off : (x y : ℕ) → y ≤ x → less x y ≡ false
+less-off x y h = off-by (less x y) (λ e. omega (arith, less-on x y e))
 
 pub eq-or : (x y : ℕ) → (x ≡ y) ⊎ (x ≢ y)
 eq-or x y = go (ℕ-discrete x y)
@@ -184,24 +184,24 @@ le-or a b = go (decLe a b)
 -- ---- a number from 1 to k
 pub one-low : (k x : ℕ) → oneTo k x ≡ true → 1 ≤ x
 unfolding oneTo
-one-low k x e = below-on 0 x (and-l (below 0 x) (below x (k + 1)) e)
+one-low k x e = less-on 0 x (and-first (less 0 x) (less x (k + 1)) e)
 
 pub one-high : (k x : ℕ) → oneTo k x ≡ true → x ≤ k
 unfolding oneTo
-one-high k x e = omega (arith, below-on x (k + 1) (and-r (below 0 x) (below x (k + 1)) e))
+one-high k x e = omega (arith, less-on x (k + 1) (and-second (less 0 x) (less x (k + 1)) e))
 
 pub one-mk : (k x : ℕ) → 1 ≤ x → x ≤ k → oneTo k x ≡ true
 unfolding oneTo
-one-mk k x l h = and-mk (below 0 x) (below x (k + 1)) (below-mk 0 x l) (below-mk x (k + 1) (omega arith))
+one-mk k x l h = and-mk (less 0 x) (less x (k + 1)) (less-mk 0 x l) (less-mk x (k + 1) (omega arith))
 
 -- ---- one check
 pub check-on : (b : Bool) (k rest : ℕ) → b ≡ true → check b k rest ≡ rest
 unfolding check
-check-on b k rest e = choose-on b rest k e
+check-on b k rest e = select-on b rest k e
 
 pub check-off : (b : Bool) (k rest : ℕ) → b ≡ false → check b k rest ≡ k
 unfolding check
-check-off b k rest e = choose-off b rest k e
+check-off b k rest e = select-off b rest k e
 
 -- a check that gives 0 has passed, and so has what is checked after it
 pub check-zero : (b : Bool) (k rest : ℕ) → 0 < k → check b k rest ≡ 0 → (b ≡ true) × (rest ≡ 0)

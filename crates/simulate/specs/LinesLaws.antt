@@ -20,10 +20,12 @@ use Rattle.bench.specs.declared.Cause.the-variants.{Empty, Spent, Refused}
 use Rattle.bench.specs.Sound.{soundOf}
 use Rattle.bench.specs.Refuse.{refusal}
 use Rattle.bench.specs.RefuseLaws.{refusal-damaged, refused-keeps}
-use Rattle.bench.specs.Calls.{refused, rules, afterRecord, endedOf, runFrom, runOf}
+use Rattle.bench.specs.Calls.{refused, runOf, afterRecord}
+use Rattle.bench.specs.RunLoop.{endedOf, runFrom}
 use Rattle.sets.specs.Lists.{joined}
+use Rattle.bench.specs.Record.{v2}
 use Rattle.bench.specs.RunLaws.{run-damaged, run-sound, run-refused, Why, closingTo, Runs, runs, sound-steps}
-use Rattle.bench.specs.OneByOne.{restOf, recordAt, steps}
+use Rattle.bench.specs.OneByOne.{restAt, recordAt, steps}
 use Rattle.text.specs.Text.{lineOf, processesText}
 use Rattle.simulate.specs.Output.{recordsIn, answerAt, lineAt, linesOf, afterAll}
 
@@ -42,12 +44,12 @@ joined-same f g zero h = refl
 joined-same f g (suc k) h = rw (joined-same f g k (λ j b. h j (omega arith)), h k (omega arith))
 
 -- ---- the records after the first i
-pub rest-add : (i j : ℕ) (l : List ℕ) → restOf j (restOf i l) ≡ restOf (i + j) l
-unfolding restOf
+pub rest-add : (i j : ℕ) (l : List ℕ) → restAt j (restAt i l) ≡ restAt (i + j) l
+unfolding restAt
 rest-add i j l = let e : 8 * i + 8 * j ≡ 8 * (i + j) = omega arith in drop-drop (8 * j) (8 * i) l ∙ rw e
 
-pub steps-add : (i j : ℕ) (s : Bench) (l : List ℕ) → steps (i + j) s l ≡ steps j (steps i s l) (restOf i l)
-unfolding steps restOf
+pub steps-add : (i j : ℕ) (s : Bench) (l : List ℕ) → steps (i + j) s l ≡ steps j (steps i s l) (restAt i l)
+unfolding steps restAt
 steps-add zero j s l = let e : 0 + j ≡ j = omega arith in rw e
 steps-add (suc i) j s l =
     let e : suc i + j ≡ suc (i + j) = omega arith in
@@ -55,7 +57,7 @@ steps-add (suc i) j s l =
     rw e (steps-add i j (afterRecord s (take 8 l)) (drop 8 l) ∙ rw (drop-drop (8 * i) 8 l, d))
 
 pub answer-add : (i j : ℕ) (s : Bench) (l : List ℕ)
-    → answerAt s l (i + j) ≡ refusal (steps j (steps i s l) (restOf i l)) (recordAt j (restOf i l))
+    → answerAt s l (i + j) ≡ refusal (steps j (steps i s l) (restAt i l)) (recordAt j (restAt i l))
 unfolding answerAt recordAt
 answer-add i j s l = rw (steps-add i j s l, rest-add i j l)
 
@@ -69,23 +71,23 @@ steps-front (suc i) s l m h =
     (steps-front i (afterRecord s (take 8 l)) (drop 8 l) m (omega (arith, length-drop 8 l)))
 
 pub answer-front : (i : ℕ) (s : Bench) (l m : List ℕ) → 8 * (i + 1) ≤ length l → answerAt s (l ++ m) i ≡ answerAt s l i
-unfolding answerAt recordAt restOf
+unfolding answerAt recordAt restAt
 answer-front i s l m h =
     let d : drop (8 * i) (l ++ m) ≡ drop (8 * i) l ++ m = drop-append-le (8 * i) l m (omega arith) in
     let t : take 8 (drop (8 * i) l ++ m) ≡ take 8 (drop (8 * i) l) =
     take-append-le 8 (drop (8 * i) l) m (omega (arith, length-drop (8 * i) l)) in
     rw (steps-front i s l m (omega arith), d, t)
 
-rest-length : (i : ℕ) (l : List ℕ) → length (restOf i l) ≡ length l - 8 * i
-unfolding restOf
+rest-length : (i : ℕ) (l : List ℕ) → length (restAt i l) ≡ length l - 8 * i
+unfolding restAt
 rest-length i l = length-drop (8 * i) l
 
 -- ---- a run of some records with some budget, damaged or not
 run-some : (budget : ℕ) (l : List ℕ) (s : Bench) → length l ≢ 0 → budget ≢ 0
-    → runOf budget l s ≡ runFrom rules budget l s 0 None 0
+    → runOf budget l s ≡ runFrom v2 budget l s 0 None 0
 run-some budget l s h b = go (is (soundOf s))
   where
-    go : Is (soundOf s) → runOf budget l s ≡ runFrom rules budget l s 0 None 0
+    go : Is (soundOf s) → runOf budget l s ≡ runFrom v2 budget l s 0 None 0
     go (on e) = run-sound budget l s e
     go (off e) =
         let two = refusal-damaged s (take 8 l) e in
@@ -119,7 +121,7 @@ pub record Taken (b : Bench) (first : ℕ) (l : List ℕ) (i : ℕ) (e : Ended) 
 module _ (b : Bench) (first : ℕ) (l : List ℕ) (i : ℕ) where
   -- k more that are accepted
   accepted-lines : (k : ℕ)
-      → ((j : ℕ) → j < k → refusal (steps j (steps i b l) (restOf i l)) (recordAt j (restOf i l)) ≡ 0)
+      → ((j : ℕ) → j < k → refusal (steps j (steps i b l) (restAt i l)) (recordAt j (restAt i l)) ≡ 0)
       → joined (i + k) (lineAt b first l) ≡ joined i (lineAt b first l) ++ acceptedText (first + i) k
   unfolding acceptedText lineAt
   accepted-lines k h =
@@ -133,10 +135,10 @@ module _ (b : Bench) (first : ℕ) (l : List ℕ) (i : ℕ) where
 
   -- no record is refused after them
   module _ (k t : ℕ) (x : Closing)
-      (h : (j : ℕ) → j < k → refusal (steps j (steps i b l) (restOf i l)) (recordAt j (restOf i l)) ≡ 0)
-      (w : 8 * k ≤ length (restOf i l)) (m : i < recordsIn l) where
+      (h : (j : ℕ) → j < k → refusal (steps j (steps i b l) (restAt i l)) (recordAt j (restAt i l)) ≡ 0)
+      (w : 8 * k ≤ length (restAt i l)) (m : i < recordsIn l) where
     taken-all : (c : Cause) → refusedIn c ≡ 0 → ((n : ℕ) → causeText n c ≡ []) → 1 ≤ k
-        → Taken b first l i (endedOf (steps k (steps i b l) (restOf i l)) k c x t)
+        → Taken b first l i (endedOf (steps k (steps i b l) (restAt i l)) k c x t)
     unfolding endedOf recordsIn
     taken-all c z e g =
         let y : i + (k + refusedIn c) ≡ i + k = omega arith in
@@ -151,41 +153,41 @@ module _ (b : Bench) (first : ℕ) (l : List ℕ) (i : ℕ) where
         }
 
     -- the next one is
-    taken-refused : (r : ℕ) → length (restOf k (restOf i l)) ≢ 0
-        → refusal (steps k (steps i b l) (restOf i l)) (take 8 (restOf k (restOf i l))) ≡ r → r ≢ 0
-        → Taken b first l i (endedOf (steps k (steps i b l) (restOf i l)) k (Refused (refused r)) x t)
+    taken-refused : (r : ℕ) → length (restAt k (restAt i l)) ≢ 0
+        → refusal (steps k (steps i b l) (restAt i l)) (take 8 (restAt k (restAt i l))) ≡ r → r ≢ 0
+        → Taken b first l i (endedOf (steps k (steps i b l) (restAt i l)) k (Refused (refused r)) x t)
     unfolding endedOf recordsIn refusedIn causeText joined lineAt recordAt steps
     taken-refused r g e z =
         let y : i + (k + 1) ≡ suc (i + k) = omega arith in
         let p : first + (i + k) ≡ first + i + k = omega arith in
         let keeps =
-        refused-keeps (steps k (steps i b l) (restOf i l)) (take 8 (restOf k (restOf i l))) (λ q. z (sym e ∙ q)) in
+        refused-keeps (steps k (steps i b l) (restAt i l)) (take 8 (restAt k (restAt i l))) (λ q. z (sym e ∙ q)) in
         record {
-          fits = omega (arith, rest-length i l, rest-length k (restOf i l));
+          fits = omega (arith, rest-length i l, rest-length k (restAt i l));
           some = omega arith;
-          state = sym (steps-add i (k + 1) b l ∙ steps-add k 1 (steps i b l) (restOf i l) ∙ keeps);
+          state = sym (steps-add i (k + 1) b l ∙ steps-add k 1 (steps i b l) (restAt i l) ∙ keeps);
           text =
               rw (y, answer-add i k b l, e, p, accepted-lines k h)
               (append-assoc (joined i (lineAt b first l)) (acceptedText (first + i) k) (lineOf (first + i + k) r));
         }
 
   -- what a run gives from there
-  pub taken : (budget : ℕ) → 0 < budget → i < recordsIn l → Taken b first l i (runOf budget (restOf i l) (steps i b l))
+  pub taken : (budget : ℕ) → 0 < budget → i < recordsIn l → Taken b first l i (runOf budget (restAt i l) (steps i b l))
   unfolding recordsIn Why refusedIn causeText
   taken budget o m =
-      let some : length (restOf i l) ≢ 0 = λ z. omega (arith, rest-length i l) in
-      let w = runs budget (restOf i l) (steps i b l) 0 None 0 in
+      let some : length (restAt i l) ≢ 0 = λ z. omega (arith, rest-length i l) in
+      let w = runs budget (restAt i l) (steps i b l) 0 None 0 in
       let z : 0 + w .k ≡ w .k = omega arith in
-      rw (run-some budget (restOf i l) (steps i b l) some (λ z. omega arith), w .gives, z)
+      rw (run-some budget (restAt i l) (steps i b l) some (λ z. omega arith), w .gives, z)
       (go some w (w .cause) (w .why))
     where
-      go : length (restOf i l) ≢ 0 → (w : Runs budget (restOf i l) (steps i b l) 0 None 0) (c : Cause)
-          → Why (budget - w .k) (restOf (w .k) (restOf i l)) (steps (w .k) (steps i b l) (restOf i l)) c
-          → Taken b first l i (endedOf (steps (w .k) (steps i b l) (restOf i l)) (w .k) c
-          (closingTo (w .k) (steps i b l) (restOf i l) None) (0 + 8 * w .k))
+      go : length (restAt i l) ≢ 0 → (w : Runs budget (restAt i l) (steps i b l) 0 None 0) (c : Cause)
+          → Why (budget - w .k) (restAt (w .k) (restAt i l)) (steps (w .k) (steps i b l) (restAt i l)) c
+          → Taken b first l i (endedOf (steps (w .k) (steps i b l) (restAt i l)) (w .k) c
+          (closingTo (w .k) (steps i b l) (restAt i l) None) (0 + 8 * w .k))
       go some w Empty y =
           taken-all (w .k) _ _ (w .each-accepted) (w .within-bytes) m Empty refl (λ n. refl)
-          (omega (arith, rest-length (w .k) (restOf i l), rest-length i l))
+          (omega (arith, rest-length (w .k) (restAt i l), rest-length i l))
       go some w Spent y =
           taken-all (w .k) _ _ (w .each-accepted) (w .within-bytes) m Spent refl (λ n. refl) (omega arith)
       go some w (Refused r) y =
@@ -194,7 +196,7 @@ module _ (b : Bench) (first : ℕ) (l : List ℕ) (i : ℕ) where
   -- the same, as the code takes the rest of the records
   pub taken-part : (budget : ℕ) (s : Bench) (e : Ended) → 0 < budget → i < recordsIn l → s ≡ steps i b l
       → e ≡ runOf budget (take (length l - i * 8) (drop (i * 8) l)) s → Taken b first l i e
-  unfolding restOf
+  unfolding restAt
   taken-part budget s e o m p q =
       let z : i * 8 ≡ 8 * i = omega arith in
       let w : take (length l - 8 * i) (drop (8 * i) l) ≡ drop (8 * i) l =
@@ -212,8 +214,8 @@ module _ (b : Bench) (first k : ℕ) (l m : List ℕ) (whole : length l ≡ 8 * 
   unfolding recordsIn
   records-whole = omega arith
 
-  rest-append : restOf k (l ++ m) ≡ m
-  unfolding restOf
+  rest-append : restAt k (l ++ m) ≡ m
+  unfolding restAt
   rest-append = drop-at l m (8 * k) whole
 
   after-whole : steps k b (l ++ m) ≡ afterAll b l
@@ -224,7 +226,7 @@ module _ (b : Bench) (first k : ℕ) (l m : List ℕ) (whole : length l ≡ 8 * 
   unfolding afterAll
   after-append =
       rw records-append (steps-add k (recordsIn m) b (l ++ m))
-      ∙ ap (λ (s : Bench). steps (recordsIn m) s (restOf k (l ++ m))) after-whole
+      ∙ ap (λ (s : Bench). steps (recordsIn m) s (restAt k (l ++ m))) after-whole
       ∙ rw rest-append
 
   pub lines-append : linesOf b first (l ++ m) ≡ linesOf b first l ++ linesOf (afterAll b l) (first + k) m

@@ -6,7 +6,7 @@ use mathlib.Core.Bool.{true, false}
 use Prim.Native.Nat.{ℕ, suc}
 use native.Mathlib.Omega.{arith}
 use lib.ListN.{length, getD}
-use Rattle.sets.specs.TruthLaws.{Is, on, off, is, choose-on, choose-off, same-mk, same-off}
+use Rattle.sets.specs.TruthLaws.{Is, on, off, is, select-on, select-off, same-mk, same-off}
 use Rattle.sets.specs.TruthLaws.{and-mk, and-off-l, and-off-r, check-on, check-off}
 use Rattle.sets.specs.Truth.{same}
 use Rattle.bench.specs.declared.Refusal.{Refusal}
@@ -20,7 +20,7 @@ use Rattle.simulate.specs.Output.{openingRefusal, unopened, openingOf}
 module _ (l : List ℕ) where
   number : (k : ℕ) → openingRefusal l ≡ suc k → openingOf l ≡ unopened (suc k)
   unfolding openingOf
-  number k e = choose-off _ _ _ (same-off _ _ (λ z. omega arith)) ∙ ap unopened e
+  number k e = select-off _ _ _ (same-off _ _ (λ z. omega arith)) ∙ ap unopened e
 
   pub opening-size : length l ≢ 8 → openingOf l ≡ unopened 3
   unfolding openingRefusal
@@ -50,7 +50,7 @@ module _ (l : List ℕ) where
           → openingOf l ≡ openOf (getD l 1 0) (getD l 2 0)
       unfolding openingRefusal openingOf
       opening-opens r v =
-          choose-on _ _ _
+          select-on _ _ _
           (same-mk _ _
           (check-on _ _ _ (same-mk _ _ s) ∙ check-on _ _ _ (same-mk _ _ k)
           ∙ check-on _ _ _ (and-mk _ _ (same-mk _ _ r) v)))
@@ -64,8 +64,8 @@ unfolding openOf
 open-sound n t a = go (is (opens n t))
   where
     go : Is (opens n t) → soundOf (openOf n t .bench) ≡ true
-    go (on e) = rw (choose-on (opens n t) _ _ e) (sound-opened n t e)
-    go (off e) = refused-not (refused 1) (rw (choose-off (opens n t) _ _ e) at a)
+    go (on e) = rw (select-on (opens n t) _ _ e) (sound-opened n t e)
+    go (off e) = refused-not (refused 1) (rw (select-off (opens n t) _ _ e) at a)
 
 pub opening-sound : (l : List ℕ) → openingOf l .answer ≡ Accepted → soundOf (openingOf l .bench) ≡ true
 unfolding openingOf unopened
@@ -73,11 +73,11 @@ opening-sound l a = go (is (same (openingRefusal l) 0))
   where
     go : Is (same (openingRefusal l) 0) → soundOf (openingOf l .bench) ≡ true
     go (on e) =
-        rw (choose-on (same (openingRefusal l) 0) (openOf (getD l 1 0) (getD l 2 0)) (unopened (openingRefusal l)) e)
+        rw (select-on (same (openingRefusal l) 0) (openOf (getD l 1 0) (getD l 2 0)) (unopened (openingRefusal l)) e)
         (open-sound (getD l 1 0) (getD l 2 0)
-        (rw (choose-on (same (openingRefusal l) 0) (openOf (getD l 1 0) (getD l 2 0)) (unopened (openingRefusal l)) e)
+        (rw (select-on (same (openingRefusal l) 0) (openOf (getD l 1 0) (getD l 2 0)) (unopened (openingRefusal l)) e)
         at a))
     go (off e) =
         refused-not (refused (openingRefusal l))
-        (rw (choose-off (same (openingRefusal l) 0) (openOf (getD l 1 0) (getD l 2 0)) (unopened (openingRefusal l)) e)
+        (rw (select-off (same (openingRefusal l) 0) (openOf (getD l 1 0) (getD l 2 0)) (unopened (openingRefusal l)) e)
         at a)

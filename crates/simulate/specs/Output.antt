@@ -4,7 +4,7 @@
 use mathlib.Core.List.{List, _++_}
 use Prim.Native.Nat.{ℕ, _+_, _/_}
 use lib.ListN.{length, getD, take, drop}
-use Rattle.sets.specs.Truth.{_&&_, same, choose, check}
+use Rattle.sets.specs.Truth.{_and_, same, select, check}
 use Rattle.bench.specs.declared.Bench.{Bench}
 use Rattle.bench.specs.declared.Opened.{Opened}
 use Rattle.bench.specs.declared.Answer.{Answer}
@@ -22,7 +22,7 @@ unfoldable pub openingRefusal : List ℕ → ℕ
 openingRefusal l =
     check (same (length l) 8) 3
     (check (same (getD l 0 0) 0) 4
-    (check (same (getD l 3 0) 0 && same (wordOf (getD l 4 0) (getD l 5 0) (getD l 6 0) (getD l 7 0)) 0) 5 0))
+    (check (same (getD l 3 0) 0 and same (wordOf (getD l 4 0) (getD l 5 0) (getD l 6 0) (getD l 7 0)) 0) 5 0))
 
 -- refused, the bench is all zero
 unfoldable pub unopened : ℕ → Opened
@@ -31,7 +31,7 @@ unopened k = record { answer = Refused (refused k); bench = openedOf 0 0 }
 -- then 1: a is n, and b is t
 unfoldable pub openingOf : List ℕ → Opened
 openingOf l =
-    choose (same (openingRefusal l) 0) (openOf (getD l 1 0) (getD l 2 0))
+    select (same (openingRefusal l) 0) (openOf (getD l 1 0) (getD l 2 0))
     (unopened (openingRefusal l))
 
 -- ---- the records: a last part shorter than 8 bytes is one too

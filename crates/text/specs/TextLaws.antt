@@ -8,22 +8,22 @@ use native.Mathlib.Nat.{mul-suc, mul-le-mul-left}
 use native.Mathlib.Numerals.{add-one}
 use native.Mathlib.Omega.{arith}
 use lib.ListN.{length, set, length-append}
-use Rattle.sets.specs.TruthLaws.{choose-on, choose-off, below-mk, below-off, le-or}
+use Rattle.sets.specs.TruthLaws.{select-on, select-off, less-mk, less-off, le-or}
 use Rattle.sets.specs.Lists.{joined}
 use Rattle.bench.specs.TransitLaws.{Stores, stores-none, stores-length, stores-more}
-use Rattle.text.specs.Text.{digits, decimal, field}
+use Rattle.text.specs.Text.{digitsOf, decimal, fieldOf}
 
 -- ---- digits
-digits-low : (k x : ℕ) → x < 10 → digits (suc k) x ≡ (48 + x) ∷ []
-unfolding digits
-digits-low k x h = choose-on _ _ _ (below-mk x 10 h)
+digits-low : (k x : ℕ) → x < 10 → digitsOf (suc k) x ≡ (48 + x) ∷ []
+unfolding digitsOf
+digits-low k x h = select-on _ _ _ (less-mk x 10 h)
 
-digits-more : (k x : ℕ) → 10 ≤ x → digits (suc k) x ≡ digits k (x / 10) ++ ((48 + x % 10) ∷ [])
-unfolding digits
-digits-more k x h = choose-off _ _ _ (below-off x 10 h)
+digits-more : (k x : ℕ) → 10 ≤ x → digitsOf (suc k) x ≡ digitsOf k (x / 10) ++ ((48 + x % 10) ∷ [])
+unfolding digitsOf
+digits-more k x h = select-off _ _ _ (less-off x 10 h)
 
 -- as many as there are, however many are allowed
-enough : (k m x : ℕ) → x < k → x < m → digits k x ≡ digits m x
+enough : (k m x : ℕ) → x < k → x < m → digitsOf k x ≡ digitsOf m x
 enough zero m x h g = absurd (omega arith)
 enough (suc k) zero x h g = absurd (omega arith)
 enough (suc k) (suc m) x h g =
@@ -103,6 +103,6 @@ short-number x h = decimal-length 9 x (omega arith)
 pub half-number : (x : ℕ) → x < 2 ^ 16 → length (decimal x) ≤ 5
 half-number x h = decimal-length 4 x (omega arith)
 
-pub half-field : (x : ℕ) → x < 2 ^ 16 → length (field x) ≤ 6
-unfolding field
+pub half-field : (x : ℕ) → x < 2 ^ 16 → length (fieldOf x) ≤ 6
+unfolding fieldOf
 half-field x h = omega (arith, length-append (32 ∷ []) (decimal x), half-number x h)

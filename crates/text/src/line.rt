@@ -5,7 +5,7 @@ ghost use Prim.Native.Nat.{_+_, _≤_, _<_};
 ghost use lib.ListN.{length};
 ghost use Rattle.bench.specs.TransitLaws.{Stores};
 ghost use Rattle.global_data.specs.declared.Entry.the-variants.{Value};
-ghost use Rattle.text.specs.Text.{decimal, field, entryText, lineOf};
+ghost use Rattle.text.specs.Text.{decimal, fieldOf, entryText, lineOf};
 ghost use Rattle.text.specs.TextLaws.{Puts};
 
 pub fn put_byte(out: &mut [u8], at: usize, b: u8) -> usize
@@ -32,7 +32,7 @@ fn put_number(out: &mut [u8], at: usize, x: u64) -> usize
 // A number after a space.
 pub fn put_field(out: &mut [u8], at: usize, x: u32) -> usize
     requires { ⌜ at + 11 ≤ length (now out) ⌝ }
-    ensures { λ r. ⌜ Puts 11 (now (out .entry)) at (field x) (now (out .exit)) r ⌝ }
+    ensures { λ r. ⌜ Puts 11 (now (out .entry)) at (fieldOf x) (now (out .exit)) r ⌝ }
 {
     let p = put_byte(out, at, 32);
     put_number(out, p, x as u64)

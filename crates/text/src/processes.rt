@@ -13,14 +13,14 @@ ghost use mathlib.Core.List.{_++_};
 ghost use Prim.Native.Nat.{_+_, _*_, _≤_};
 ghost use lib.ListN.{length, drop};
 ghost use Rattle.sets.specs.Truth.{bit};
-ghost use Rattle.global_data.specs.GlobalData.{entry, entryOf};
+ghost use Rattle.global_data.specs.GlobalData.{entryBy, entryOf};
 ghost use Rattle.sets.specs.Lists.{joined};
 ghost use Rattle.text.specs.Text.{entryText, processText, processesText};
 ghost use Rattle.text.specs.TextLaws.{Puts};
 
 fn put_entry(out: &mut [u8], at: usize, present: bool, word: u32) -> usize
     requires { ⌜ at + 12 ≤ length (now out) ⌝ }
-    ensures { λ r. ⌜ Puts 12 (now (out .entry)) at (entryText (entry present word)) (now (out .exit)) r ⌝ }
+    ensures { λ r. ⌜ Puts 12 (now (out .entry)) at (entryText (entryBy present word)) (now (out .exit)) r ⌝ }
 {
     if present {
         put_value(out, at, portions(word), diet(word))

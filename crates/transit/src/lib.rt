@@ -103,8 +103,8 @@ fn all_messages(n: u8, t: u8, words: &[u16]) -> usize
     sum
 }
 
-// Lists the messages in transit in `out`, by round, sender and receiver, and gives how many there are. Nothing is written
-// where it refuses.
+// Lists the messages in transit in `out`, by round, sender and receiver, and gives how many there are. Nothing is
+// written where it refuses.
 pub fn in_transit(b: Bench, out: &mut [u8]) -> Listed
     ensures { λ r. ⌜ r ≡ listOf b (now (out .entry)) ⌝ }
     ensures { λ r. ⌜ now (out .exit) ≡ listedIn b (now (out .entry)) ⌝ }

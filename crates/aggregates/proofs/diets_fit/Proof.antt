@@ -5,7 +5,7 @@ use native.Mathlib.Nat.{le-antisymm}
 use native.Mathlib.Numerals.{add-one}
 use borrow.Author.Needs.{needs}
 use lib.ListN.{length}
-use Rattle.sets.specs.Truth.{_&&_}
+use Rattle.sets.specs.Truth.{_and_}
 use Rattle.sets.specs.Lists.{every}
 use Rattle.aggregates.specs.Entries.{entryAt, dietsFit}
 use Rattle.aggregates.proofs.diets_fit.Statement.{statement}
@@ -18,7 +18,7 @@ abbrev μ-loop : tie.MeasureT-loop
 μ-loop entries marks ok₀ i₀ ok i = length entries - i
 
 loop-again : tie.Need-loop-again Inv-loop μ-loop
-unfolding every _&&_
+unfolding every _and_
 loop-again c =
     let v = c .before .before .before .loop .inv in
     (search needs, rw (add-one, v .1, c .diet-fits .ensures, c .before .entry-at .ensures))

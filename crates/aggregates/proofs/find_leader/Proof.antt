@@ -19,8 +19,10 @@ abbrev μ-loop : tie.MeasureT-loop
 
 loop-again : tie.Need-loop-again Inv-loop μ-loop
 loop-again c =
-    let v = c .before .before .before .loop .inv .1 in
-    (search needs, rw (add-one, leader-next, ← v, ← c .before .entry-at .ensures, ← add-one) (c .with-entry .ensures))
+    let v = c .before .before .before .loop .inv .1 in (
+      search needs,
+      rw (add-one, leader-next, ← v, ← add-one) (rw (c .before .entry-at .ensures) at (c .with-entry .ensures)),
+    )
 
 pub find-leader-spec : {M : Type 1} → statement M
 find-leader-spec = tie.close (tie.spec Inv-loop μ-loop (λ c. (search needs, sym (leader-start _))) (λ c. search needs)

@@ -6,14 +6,14 @@ use native.Mathlib.Numerals.{add-one}
 use borrow.Author.Needs.{needs}
 use lib.ListN.{length}
 use Rattle.aggregates.specs.Entries.{entryAt, standingAt}
-use Rattle.aggregates.specs.Aggregates.{total}
+use Rattle.aggregates.specs.Aggregates.{totalTo}
 use Rattle.sets.specs.Lists.{sumTo}
 use Rattle.aggregates.proofs.sum.Statement.{statement}
 use Rattle.aggregates.proofs.sum.Tie as tie
 
 abbrev Inv-loop : tie.InvT-loop
 Inv-loop entries marks standing sum₀ i₀ sum i =
-    (i ≤ length entries) × (sum ≡ total i (standingAt standing) (entryAt entries marks)) × (sum ≤ 4294967295 * i)
+    (i ≤ length entries) × (sum ≡ totalTo i (standingAt standing) (entryAt entries marks)) × (sum ≤ 4294967295 * i)
 
 abbrev μ-loop : tie.MeasureT-loop
 μ-loop entries marks standing sum₀ i₀ sum i = length entries - i

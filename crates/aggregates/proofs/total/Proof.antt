@@ -7,7 +7,7 @@ use Rattle.sets.specs.TruthLaws.{same-on}
 use Rattle.aggregates.specs.Answers.{gives}
 use Rattle.aggregates.specs.Entries.{entryAt, standingAt}
 use Rattle.aggregates.specs.Refusals.{accepted, turned-away}
-use Rattle.aggregates.specs.Aggregates.{total, totalOf}
+use Rattle.aggregates.specs.Aggregates.{totalTo, totalOf}
 use Rattle.aggregates.proofs.Accepted.{few, worked}
 use Rattle.aggregates.proofs.total.Statement.{statement}
 use Rattle.aggregates.proofs.total.Tie as tie
@@ -30,7 +30,7 @@ unfolding totalOf same
 returns-2 c =
     let a = c .before .before .before .before .before .args in
     worked _ _ _ _ _ _ (c .before .before .first-refusal .ensures) (c .before .if1 .left)
-    (λ m e. gives (total m (standingAt (a .standing .now)) e)) (entryAt _ _) _ (ap gives (c .sum .ensures))
+    (λ m e. gives (totalTo m (standingAt (a .standing .now)) e)) (entryAt _ _) _ (ap gives (c .sum .ensures))
 
 pub total-spec : {M : Type 1} → statement M
 total-spec = tie.close (tie.spec (λ c κs. search needs) returns sum-requires returns-2)

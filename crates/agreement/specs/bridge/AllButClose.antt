@@ -9,10 +9,10 @@ use lib.ListN.{getD, set, replicate}
 use lib.Seq.{getD-set-same}
 use Rattle.sets.specs.Set.{has, insertOf, removeOf, emptySet, sizeOf}
 use Rattle.sets.specs.Laws.{has-empty, has-insert, has-remove, has-difference, has-all, size-count}
-use Rattle.sets.specs.Truth.{_&&_, _||_, same, below, choose}
-use Rattle.sets.specs.TruthLaws.{Is, on, off, is, choose-on, choose-off, and-l, and-r, and-mk}
-use Rattle.sets.specs.TruthLaws.{choose-by, and-on-l, and-on-r, and-off-l, or-off-l, or-off-r, not-on, same-on}
-use Rattle.sets.specs.TruthLaws.{same-refl, same-off, below-mk, below-off, below-on, both-ways}
+use Rattle.sets.specs.Truth.{_and_, _or_, same, less, select}
+use Rattle.sets.specs.TruthLaws.{Is, on, off, is, select-on, select-off, and-first, and-second, and-mk}
+use Rattle.sets.specs.TruthLaws.{select-by, and-on-l, and-on-r, and-off-l, or-off-l, or-off-r, not-on, same-on}
+use Rattle.sets.specs.TruthLaws.{same-refl, same-off, less-mk, less-off, less-on, by-both}
 use Rattle.global_data.specs.GlobalData.{oneOf}
 use Rattle.process.specs.declared.Process.{Process}
 use Rattle.process.specs.Steps.{hasDecided, openRoundOf, startOf, receiveOf, keeps, decideOf}
@@ -28,7 +28,7 @@ use Rattle.bench.specs.Refuse.{actor, numberOf, passes7, refuses, isCrash}
 use Rattle.bench.specs.RefuseLaws.{Passes, passes-on, ninth-crash}
 use Rattle.bench.specs.SoundLaws.{Bounds, process-low}
 use Rattle.bench.specs.Effect.{opensRound, sends, arrives, effect}
-use Rattle.agreement.specs.view.View.{slot, kept, taken, Calm, SameDecision, Start}
+use Rattle.agreement.specs.view.View.{slot, keeping, taken, Calm, SameDecision, Start}
 use Rattle.agreement.specs.view.View.{Send, Arrive, Keep, Adopt, Ignore, Crash, Suspect}
 use Rattle.agreement.specs.view.Basic.{Basic}
 use Rattle.agreement.specs.bridge.Lengths.{Sized}
@@ -56,8 +56,8 @@ one-value : (a v : ℕ) → a < 16 → getD (oneOf a v .values) a 0 ≡ v
 unfolding oneOf
 one-value a v h = getD-set-same (replicate 16 0) a v 0 h
 
-pub low : (s : Bench) → Bounds s → (x : ℕ) → x < s .n → x < 16
-low s K x h = omega (arith, K .few)
+pub place-low : (s : Bench) → Bounds s → (x : ℕ) → x < s .n → x < 16
+place-low s K x h = omega (arith, K .few)
 
 pub round-low : (s : Bench) → Bounds s → (x : ℕ) → processAt s x .round ≤ 16
 round-low s K x = omega (arith, process-low s K x .round, K .few, K .limit)
@@ -69,14 +69,14 @@ module _ (s : Bench) (c : ℕ → Bool) (Z : Sized s) (K : Bounds s) where
     start-placed : Placed s (effect (StartOf a v) s) a (startOf (s .n) a v (processAt s a))
     unfolding effect startOf openRoundOf
     start-placed =
-        placed-opens s a (startOf (s .n) a v (processAt s a)) Z (low s K a h) (round-low s K)
+        placed-opens s a (startOf (s .n) a v (processAt s a)) Z (place-low s K a h) (round-low s K)
         (omega (arith, was)) (omega arith)
 
     start-row : rowOf (effect (StartOf a v) s) a 0 ≡ oneOf a v
     unfolding effect startOf openRoundOf
     start-row =
         row-open (effect (StartOf a v) s) a 0 (rw (start-placed .here) (omega arith))
-        ∙ opens-sent s a (startOf (s .n) a v (processAt s a)) Z (low s K a h) (omega arith)
+        ∙ opens-sent s a (startOf (s .n) a v (processAt s a)) Z (place-low s K a h) (omega arith)
 
     start-rest : (effect (StartOf a v) s .crashed ≡ s .crashed) × (effect (StartOf a v) s .in_transit ≡ s .in_transit)
     unfolding effect opensRound withSent withProcess
@@ -101,12 +101,12 @@ module _ (s : Bench) (c : ℕ → Bool) (Z : Sized s) (K : Bounds s) where
           previous = λ y. rw (P .here) (has-all (s .n) y);
           current =
               λ y. rw (P .here) (has-difference _ _ y
-              ∙ ap (λ (u : Bool). u && not (has (processAt s a .suspected) y)) (has-all (s .n) y));
+              ∙ ap (λ (u : Bool). u and not (has (processAt s a .suspected) y)) (has-all (s .n) y));
           outbox = λ y. rw (P .here) (has-remove _ a y);
           row = λ k. rw start-row (one-has a v k);
-          entry = rw start-row (one-value a v (low s K a h));
+          entry = rw start-row (one-value a v (place-low s K a h));
           estimate = λ k. rw (P .here) (one-has a v k);
-          value = rw (P .here) (one-value a v (low s K a h));
+          value = rw (P .here) (one-value a v (place-low s K a h));
           value-row = λ k. rw (P .here, start-row);
         }
 
@@ -121,14 +121,14 @@ module _ (s : Bench) (c : ℕ → Bool) (Z : Sized s) (K : Bounds s) where
   unfolding messageOf
   message-low a = go (is (hasDecided (processAt s a)))
     where
-      go : Is (hasDecided (processAt s a)) → choose (hasDecided (processAt s a)) 0 (processAt s a .round) < 17
-      go (on e) = rw (choose-on _ 0 (processAt s a .round) e) (omega arith)
-      go (off e) = rw (choose-off _ 0 (processAt s a .round) e) (omega (arith, round-low s K a))
+      go : Is (hasDecided (processAt s a)) → select (hasDecided (processAt s a)) 0 (processAt s a .round) < 17
+      go (on e) = rw (select-on _ 0 (processAt s a .round) e) (omega arith)
+      go (off e) = rw (select-off _ 0 (processAt s a .round) e) (omega (arith, round-low s K a))
 
   module _ (a b : ℕ) (h : a < s .n) where
     send-placed : Placed s (effect (SendOf a b) s) a (sendOf b (processAt s a))
     unfolding effect sends
-    send-placed = placed-transit s _ a a _ _ _ (placed-process s a (sendOf b (processAt s a)) Z (low s K a h))
+    send-placed = placed-transit s _ a a _ _ _ (placed-process s a (sendOf b (processAt s a)) Z (place-low s K a h))
 
     send-crashed : effect (SendOf a b) s .crashed ≡ s .crashed
     unfolding effect sends withTransit withProcess
@@ -159,7 +159,7 @@ module _ (s : Bench) (c : ℕ → Bool) (Z : Sized s) (K : Bounds s) where
           suspected = λ y. rw (P .here);
           outbox = λ y. rw (P .here) (has-remove _ b y);
           transit =
-              transit-of _||_ (λ w. or-off-l false w refl) s _ c c a _ b _ (Z .transit) (low s K a h)
+              transit-of _or_ (λ w. or-off-l false w refl) s _ c c a _ b _ (Z .transit) (place-low s K a h)
               (message-low a) send-transit (has-insert _ b);
         }
 
@@ -199,14 +199,14 @@ module _ (s : Bench) (c : ℕ → Bool) (Z : Sized s) (K : Bounds s) where
   unfolding isCrash actor
   crash-step a h z =
       let A = passes-on (CrashOf a) s z in
-      crash-view a h (A .running) (below-on _ _ (sym (ninth-crash (CrashOf a) s refl) ∙ A .pass9))
+      crash-view a h (A .running) (less-on _ _ (sym (ninth-crash (CrashOf a) s refl) ∙ A .pass9))
 
   -- ---- suspect
 
   module _ (a b : ℕ) (h : a < s .n) where
     suspect-placed : Placed s (effect (SuspectOf a b) s) a (suspectOf b (processAt s a))
     unfolding effect
-    suspect-placed = placed-process s a (suspectOf b (processAt s a)) Z (low s K a h)
+    suspect-placed = placed-process s a (suspectOf b (processAt s a)) Z (place-low s K a h)
 
     suspect-rest : (effect (SuspectOf a b) s .crashed ≡ s .crashed)
         × (effect (SuspectOf a b) s .in_transit ≡ s .in_transit)
@@ -241,24 +241,24 @@ module _ (s : Bench) (c : ℕ → Bool) (Z : Sized s) (K : Bounds s) where
   unfolding passes7 actor
   suspect-step a b h h′ ne z =
       let A = passes-on (SuspectOf a b) s z in
-      suspect-view a b h h′ ne (A .running) (and-l _ _ (A .pass7)) (not-on _ (and-r _ _ (A .pass7)))
+      suspect-view a b h h′ ne (A .running) (and-first _ _ (A .pass7)) (not-on _ (and-second _ _ (A .pass7)))
 
 -- ---- arrival
 
-and-swap : (a b : Bool) → (a && b) ≡ (b && a)
+and-swap : (a b : Bool) → (a and b) ≡ (b and a)
 and-swap a b =
-    both-ways (a && b) (b && a) (λ e. and-mk b a (and-r a b e) (and-l a b e))
-    (λ e. and-mk a b (and-r b a e) (and-l b a e))
+    by-both (a and b) (b and a) (λ e. and-mk b a (and-second a b e) (and-first a b e))
+    (λ e. and-mk a b (and-second b a e) (and-first b a e))
 
-and-assoc : (a b d : Bool) → ((a && b) && d) ≡ (a && (b && d))
-unfolding _&&_
-and-assoc true b d = refl
-and-assoc false b d = refl
+and-regroup : (a b d : Bool) → ((a and b) and d) ≡ (a and (b and d))
+unfolding _and_
+and-regroup true b d = refl
+and-regroup false b d = refl
 
 -- whom a decision is owed
 pub owed-has : (n a : ℕ) (p : Process) (y : ℕ)
-    → has (owedOf n a p) y ≡ (below y n && (not (same y a) && not (has (p .suspected) y)))
-owed-has n a p y = has-owed a p y n ∙ and-assoc _ _ _
+    → has (owedOf n a p) y ≡ (less y n and (not (same y a) and not (has (p .suspected) y)))
+owed-has n a p y = has-owed a p y n ∙ and-regroup _ _ _
 
 -- the sets, the round and the decision stay
 record Hears (p p′ : Process) : Type 0 where
@@ -284,7 +284,7 @@ hears-same p = record {
 receive-hears : (y r : ℕ) (p : Process) → Hears p (receiveOf y r p)
 unfolding receiveOf hasDecided
 receive-hears y r p =
-    choose-by (Hears p) (keeps p y r) _ p
+    select-by (Hears p) (keeps p y r) _ p
     (λ e. record {
       round = refl;
       decided = refl;
@@ -299,28 +299,28 @@ receive-hears y r p =
 receive-on : (y r : ℕ) (p : Process) → keeps p y r ≡ true
     → receiveOf y r p .received ≡ set (p .received) (r - 1) (insertOf (getD (p .received) (r - 1) 0) y)
 unfolding receiveOf
-receive-on y r p e = ap (λ (q : Process). q .received) (choose-on (keeps p y r) _ p e)
+receive-on y r p e = ap (λ (q : Process). q .received) (select-on (keeps p y r) _ p e)
 
 receive-off : (y r : ℕ) (p : Process) → keeps p y r ≡ false → receiveOf y r p ≡ p
 unfolding receiveOf
-receive-off y r p e = choose-off (keeps p y r) _ p e
+receive-off y r p e = select-off (keeps p y r) _ p e
 
 -- whom an adopted decision is owed: not the one that it came from
 adopted-has : (n a k : ℕ) (p : Process) (y : ℕ)
     → has (removeOf (owedOf n a p) k) y
-    ≡ (below y n && (not (same y a) && (not (has (p .suspected) y) && not (same y k))))
+    ≡ (less y n and (not (same y a) and (not (has (p .suspected) y) and not (same y k))))
 adopted-has n a k p y =
-    has-remove _ k y ∙ ap (λ (u : Bool). u && not (same y k)) (owed-has n a p y) ∙ and-assoc _ _ _
-    ∙ ap (λ (u : Bool). below y n && u) (and-assoc _ _ _)
+    has-remove _ k y ∙ ap (λ (u : Bool). u and not (same y k)) (owed-has n a p y) ∙ and-regroup _ _ _
+    ∙ ap (λ (u : Bool). less y n and u) (and-regroup _ _ _)
 
 -- what b keeps and takes over, in the view
-kept-estimate : (s : Bench) (c : ℕ → Bool) (a r b : ℕ) → 1 ≤ r → kept (viewOf s c) a r b ≡ keeps (processAt s b) a r
-unfolding viewOf kept keeps
-kept-estimate s c a r b h = and-on-l _ _ (below-mk 0 r h)
+kept-estimate : (s : Bench) (c : ℕ → Bool) (a r b : ℕ) → 1 ≤ r → keeping (viewOf s c) a r b ≡ keeps (processAt s b) a r
+unfolding viewOf keeping keeps
+kept-estimate s c a r b h = and-on-l _ _ (less-mk 0 r h)
 
-kept-decision : (s : Bench) (c : ℕ → Bool) (a b : ℕ) → kept (viewOf s c) a 0 b ≡ false
-unfolding kept
-kept-decision s c a b = and-off-l _ _ (below-off 0 0 (omega arith))
+kept-decision : (s : Bench) (c : ℕ → Bool) (a b : ℕ) → keeping (viewOf s c) a 0 b ≡ false
+unfolding keeping
+kept-decision s c a b = and-off-l _ _ (less-off 0 0 (omega arith))
 
 taken-estimate : (s : Bench) (c : ℕ → Bool) (r b : ℕ) → 1 ≤ r → taken (viewOf s c) r b ≡ false
 unfolding taken
@@ -340,7 +340,7 @@ module _ (s : Bench) (c : ℕ → Bool) (Z : Sized s) (K : Bounds s) where
       → Arrive (s .n) (s .t) (viewOf s c) (viewOf s′ c) a r b
   unfolding viewOf
   arrive-of s′ a r b p P h h′ ne d run w e f g calm =
-      let l = low s K a h in
+      let l = place-low s K a h in
       let m : r < 17 = omega (arith, K .few, K .limit) in
       record {
         low = h;
@@ -354,7 +354,7 @@ module _ (s : Bench) (c : ℕ → Bool) (Z : Sized s) (K : Bounds s) where
         crashed = same-crashed s s′ c c e;
         suspected = λ y. rw (P .here, g);
         transit =
-            transit-of (λ u v. v && not u) (λ v. and-on-r v (not false) refl) s s′ c c a r b _ (Z .transit) l m f
+            transit-of (λ u v. v and not u) (λ v. and-on-r v (not false) refl) s s′ c c a r b _ (Z .transit) l m f
             (has-remove _ b);
       }
 
@@ -364,7 +364,8 @@ module _ (s : Bench) (c : ℕ → Bool) (Z : Sized s) (K : Bounds s) where
       (w : has (transitAt s a r) b ≡ true) where
     hear-placed : Placed s (effect (ArriveOf a b (Estimate r)) s) b (receiveOf a r (processAt s b))
     unfolding effect arrives
-    hear-placed = placed-transit s _ b a _ _ _ (placed-process s b (receiveOf a r (processAt s b)) Z (low s K b h′))
+    hear-placed =
+        placed-transit s _ b a _ _ _ (placed-process s b (receiveOf a r (processAt s b)) Z (place-low s K b h′))
 
     hear-rest : (effect (ArriveOf a b (Estimate r)) s .crashed ≡ s .crashed)
         × (effect (ArriveOf a b (Estimate r)) s .in_transit
@@ -396,7 +397,7 @@ module _ (s : Bench) (c : ℕ → Bool) (Z : Sized s) (K : Bounds s) where
       decision = hear-decision;
       outbox = hear-outbox;
       received =
-          λ m y. rw (hear-placed .here) (heard-more (processAt s b) _ a r (Z .received b (low s K b h′)) first
+          λ m y. rw (hear-placed .here) (heard-more (processAt s b) _ a r (Z .received b (place-low s K b h′)) first
           (omega (arith, K .few, K .limit)) (receive-on a r (processAt s b) e) m y);
     }
 
@@ -434,7 +435,7 @@ module _ (s : Bench) (c : ℕ → Bool) (Z : Sized s) (K : Bounds s) where
     told-placed : Placed s (effect (ArriveOf a b Decision) s) b
         (adoptOf (s .n) b a (processAt s a .estimate) (processAt s b))
     unfolding effect arrives
-    told-placed = placed-transit s _ b a _ _ _ (placed-process s b _ Z (low s K b h′))
+    told-placed = placed-transit s _ b a _ _ _ (placed-process s b _ Z (place-low s K b h′))
 
     told-rest : (effect (ArriveOf a b Decision) s .crashed ≡ s .crashed)
         × (effect (ArriveOf a b Decision) s .in_transit ≡ withTransit s a 0 (removeOf (transitAt s a 0) b) .in_transit)
@@ -452,7 +453,7 @@ module _ (s : Bench) (c : ℕ → Bool) (Z : Sized s) (K : Bounds s) where
           arrive =
               arrive-of _ a 0 b _ P h h′ ne (omega arith) run w (told-rest .0) (told-rest .1) refl
               (calm-of s _ b _ P c refl refl refl
-              (λ u. absurd (omega (arith, B .closed-is b (not-on _ (and-r _ _ e))))));
+              (λ u. absurd (omega (arith, B .closed-is b (not-on _ (and-second _ _ e))))));
           taken-here = taken-decision s c b ∙ e;
           decided = rw (P .here) (decide-decided (processAt s b) _ _);
           estimate = λ k. rw (P .here);

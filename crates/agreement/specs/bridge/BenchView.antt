@@ -9,9 +9,9 @@ use lib.ListN.{length, getD, set, replicate, getD-replicate, List·getD-eq-defau
 use lib.Seq.{getD-set-same, getD-set-other}
 use Rattle.sets.specs.Set.{has, insertOf}
 use Rattle.sets.specs.Laws.{has-empty, has-insert}
-use Rattle.sets.specs.Truth.{bit, _&&_, _||_, same, below, choose}
-use Rattle.sets.specs.TruthLaws.{Is, on, off, is, choose-on, choose-off, and-on-l, and-off-l, and-off-r}
-use Rattle.sets.specs.TruthLaws.{or-off-l, same-refl, same-off, below-mk, below-off, below-on, eq-or, le-or}
+use Rattle.sets.specs.Truth.{bit, _and_, _or_, same, less, select}
+use Rattle.sets.specs.TruthLaws.{Is, on, off, is, select-on, select-off, and-on-l, and-off-l, and-off-r}
+use Rattle.sets.specs.TruthLaws.{or-off-l, same-refl, same-off, less-mk, less-off, less-on, eq-or, le-or}
 use Rattle.global_data.specs.declared.GlobalData.{GlobalData}
 use Rattle.process.specs.declared.Process.{Process}
 use Rattle.process.specs.Steps.{hasDecided, noProcess, idleOf}
@@ -25,11 +25,11 @@ use Rattle.agreement.specs.bridge.Lengths.{Sized}
 
 -- estimate number l of x: what it sent in the round that it opened with it; past its rounds the one that it holds
 unfoldable pub rowOf : Bench → ℕ → ℕ → GlobalData
-rowOf s x l = choose (below l (processAt s x .round)) (sentAt s x (suc l)) (processAt s x .estimate)
+rowOf s x l = select (less l (processAt s x .round)) (sentAt s x (suc l)) (processAt s x .estimate)
 
 -- y's estimate of round r is kept at p; no other index is read
 unfoldable pub heard : Process → ℕ → ℕ → Bool
-heard p r y = below 0 r && (below r 17 && has (getD (p .received) (r - 1) 0) y)
+heard p r y = less 0 r and (less r 17 and has (getD (p .received) (r - 1) 0) y)
 
 -- `c` marks those that decided at a close
 unfoldable pub viewOf : Bench → (ℕ → Bool) → View
@@ -44,7 +44,7 @@ viewOf s c =
       suspected = λ x y. has (processAt s x .suspected) y;
       outbox = λ x y. has (processAt s x .outbox) y;
       received = λ x r y. heard (processAt s x) r y;
-      transit = λ x r y. below x 16 && (below r 17 && has (transitAt s x r) y);
+      transit = λ x r y. less x 16 and (less r 17 and has (transitAt s x r) y);
       row = λ x l k. has (rowOf s x l .present) k;
       entry = λ x l k. getD (rowOf s x l .values) k 0;
       estimate = λ x k. has (processAt s x .estimate .present) k;
@@ -100,11 +100,11 @@ opens-sent s a p Z h f = sent-here (withProcess s a p) a (p .round) (p .estimate
 -- a row of an open round is what was sent in it; past the rounds it is the estimate
 pub row-open : (s : Bench) (x l : ℕ) → l < processAt s x .round → rowOf s x l ≡ sentAt s x (suc l)
 unfolding rowOf
-row-open s x l h = choose-on _ _ _ (below-mk l _ h)
+row-open s x l h = select-on _ _ _ (less-mk l _ h)
 
 pub row-last : (s : Bench) (x l : ℕ) → processAt s x .round ≤ l → rowOf s x l ≡ processAt s x .estimate
 unfolding rowOf
-row-last s x l h = choose-off _ _ _ (below-off l _ h)
+row-last s x l h = select-off _ _ _ (less-off l _ h)
 
 module _ (s s′ : Bench) (a : ℕ) (p : Process) (P : Placed s s′ a p) where
   row-there : (x l : ℕ) → x ≢ a → rowOf s′ x l ≡ rowOf s x l
@@ -169,15 +169,15 @@ module _ (s s′ : Bench) (a : ℕ) (p : Process) (P : Placed s s′ a p) where
 
 -- ---- tests of an index
 
-pub clip-on : (x m k n : ℕ) (v : Bool) → x < m → k < n → (below x m && (below k n && v)) ≡ v
-clip-on x m k n v h d = and-on-l _ _ (below-mk x m h) ∙ and-on-l _ _ (below-mk k n d)
+pub clip-on : (x m k n : ℕ) (v : Bool) → x < m → k < n → (less x m and (less k n and v)) ≡ v
+clip-on x m k n v h d = and-on-l _ _ (less-mk x m h) ∙ and-on-l _ _ (less-mk k n d)
 
 clip-cong : (x m k n : ℕ) (v w : Bool) → (x < m → k < n → v ≡ w)
-    → (below x m && (below k n && v)) ≡ (below x m && (below k n && w))
-clip-cong x m k n v w h = go (is (below x m)) (is (below k n))
+    → (less x m and (less k n and v)) ≡ (less x m and (less k n and w))
+clip-cong x m k n v w h = go (is (less x m)) (is (less k n))
   where
-    go : Is (below x m) → Is (below k n) → (below x m && (below k n && v)) ≡ (below x m && (below k n && w))
-    go (on e) (on f) = rw (h (below-on x m e) (below-on k n f))
+    go : Is (less x m) → Is (less k n) → (less x m and (less k n and v)) ≡ (less x m and (less k n and w))
+    go (on e) (on f) = rw (h (less-on x m e) (less-on k n f))
     go (on e) (off f) = rw (and-off-l _ v f, and-off-l _ w f)
     go (off e) f = and-off-l _ _ e ∙ sym (and-off-l _ _ e)
 
@@ -228,7 +228,7 @@ module _ (f : Bool → Bool → Bool) (idle : (v : Bool) → f false v ≡ v) (s
 
 pub heard-more : (p p′ : Process) (a r : ℕ) → length (p .received) ≡ 16 → 1 ≤ r → r ≤ 16
     → p′ .received ≡ set (p .received) (r - 1) (insertOf (getD (p .received) (r - 1) 0) a)
-    → (m y : ℕ) → heard p′ m y ≡ ((same m r && same y a) || heard p m y)
+    → (m y : ℕ) → heard p′ m y ≡ ((same m r and same y a) or heard p m y)
 unfolding heard
 heard-more p p′ a r Z h d e m y = rw e (go (eq-or m r))
   where
@@ -237,8 +237,8 @@ heard-more p p′ a r Z h d e m y = rw e (go (eq-or m r))
 
     Goal : Type 0
     Goal =
-        (below 0 m && (below m 17 && has (getD (set (p .received) (r - 1) (insertOf old a)) (m - 1) 0) y))
-        ≡ ((same m r && same y a) || (below 0 m && (below m 17 && has (getD (p .received) (m - 1) 0) y)))
+        (less 0 m and (less m 17 and has (getD (set (p .received) (r - 1) (insertOf old a)) (m - 1) 0) y))
+        ≡ ((same m r and same y a) or (less 0 m and (less m 17 and has (getD (p .received) (m - 1) 0) y)))
 
     go : (m ≡ r) ⊎ (m ≢ r) → Goal
     go (inl q) =
@@ -297,9 +297,9 @@ module _ (n t : ℕ) where
       })
       (le-or 16 x)
 
-  none : (x : ℕ) → crashedAt (openedOf n t) x ≡ false
+  no-crash : (x : ℕ) → crashedAt (openedOf n t) x ≡ false
   unfolding crashedAt openedOf
-  none x = has-empty x
+  no-crash x = has-empty x
 
   nowhere : (x r : ℕ) → transitAt (openedOf n t) x r ≡ 0
   unfolding transitAt openedOf
@@ -311,7 +311,7 @@ module _ (n t : ℕ) where
     round = λ x. unstarted x .round;
     closed = λ x. omega (arith, unstarted x .round);
     decided = λ x. unstarted x .decided;
-    crashed = none;
+    crashed = no-crash;
     previous = λ x y. rw (unstarted x .previous) (has-empty y);
     current = λ x y. rw (unstarted x .current) (has-empty y);
     suspected = λ x y. rw (unstarted x .suspected) (has-empty y);

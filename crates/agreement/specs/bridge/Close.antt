@@ -8,9 +8,9 @@ use native.Mathlib.Omega.{arith}
 use lib.ListN.{getD}
 use Rattle.sets.specs.Set.{has}
 use Rattle.sets.specs.Laws.{has-remove, has-low, nothing-in, split-differ}
-use Rattle.sets.specs.Truth.{bit, _&&_, _||_, same}
-use Rattle.sets.specs.TruthLaws.{Is, on, off, is, below-on, clash, both-ways, choose-on, choose-off}
-use Rattle.sets.specs.TruthLaws.{and-l, and-r, and-mk, and-off-l, and-off-r, or-cases, or-off-l}
+use Rattle.sets.specs.Truth.{bit, _and_, _or_, same}
+use Rattle.sets.specs.TruthLaws.{Is, on, off, is, less-on, clash, by-both, select-on, select-off}
+use Rattle.sets.specs.TruthLaws.{and-first, and-second, and-mk, and-off-l, and-off-r, or-cases, or-off-l}
 use Rattle.sets.specs.TruthLaws.{or-mk-l, not-on, same-on, same-off, same-not, same-refl}
 use Rattle.global_data.specs.declared.GlobalData.{GlobalData}
 use Rattle.global_data.specs.GlobalData.{valueIn, entryOf, sameTo, allSame}
@@ -37,7 +37,7 @@ use Rattle.agreement.specs.view.Basic.{Basic}
 use Rattle.agreement.specs.bridge.Lengths.{Sized}
 use Rattle.agreement.specs.bridge.BenchView.{rowOf, heard, viewOf, Placed, placed-process, placed-opens}
 use Rattle.agreement.specs.bridge.BenchView.{opens-sent, row-open, row-last, row-here, others-of, clip-on}
-use Rattle.agreement.specs.bridge.AllButClose.{same-crashed, same-transit, low, round-low, owed-has}
+use Rattle.agreement.specs.bridge.AllButClose.{same-crashed, same-transit, place-low, round-low, owed-has}
 
 -- ---- the parts of a close of a
 
@@ -64,7 +64,7 @@ value-is g k v e = value-word _ v (sym (entry-present g k (value-present g k _ _
 
 entry-has : (g h : GlobalData) (k : ℕ) → entryOf g k ≡ entryOf h k → has (g .present) k ≡ has (h .present) k
 entry-has g h k e =
-    both-ways _ _ (λ t. value-present h k _ _ (sym e ∙ entry-present g k t))
+    by-both _ _ (λ t. value-present h k _ _ (sym e ∙ entry-present g k t))
     (λ t. value-present g k _ _ (e ∙ entry-present h k t))
 
 entry-differ : (g h : GlobalData) (k : ℕ) → (entryOf g k ≡ entryOf h k → ⊥)
@@ -86,7 +86,7 @@ unfoldable pub closersOf : Event → Bench → (ℕ → Bool) → ℕ → Bool
 closersOf (StartOf a v) s c = c
 closersOf (SendOf a b) s c = c
 closersOf (ArriveOf a b m) s c = c
-closersOf (CloseOf a) s c = λ x. (same x a && hasDecided (processAt (effect (CloseOf a) s) a)) || c x
+closersOf (CloseOf a) s c = λ x. (same x a and hasDecided (processAt (effect (CloseOf a) s) a)) or c x
 closersOf (CrashOf a) s c = c
 closersOf (SuspectOf a b) s c = c
 
@@ -127,25 +127,25 @@ module _ (s : Bench) (c : ℕ → Bool) (K : Bounds s) (B : Basic (s .n) (s .t) 
 
   next-has : (y : ℕ) → next (viewOf s c) a y ≡ has (nextOf a p) y
   unfolding viewOf next
-  next-has y = rw (heard-is y) (sym (has-next a p y ∙ ap (λ (u : Bool). has (p .current) y && u) (has-arrived a p y)))
+  next-has y = rw (heard-is y) (sym (has-next a p y ∙ ap (λ (u : Bool). has (p .current) y and u) (has-arrived a p y)))
 
   -- the members of the next set but a
   peer-on : (y : ℕ) → has (peersOf a p) y ≡ true → (y ≢ a) × (next (viewOf s c) a y ≡ true)
   peer-on y e =
       let w = sym (has-peers a p y) ∙ e in
-      (same-not y a (not-on _ (and-r _ _ w)), next-has y ∙ and-l _ _ w)
+      (same-not y a (not-on _ (and-second _ _ w)), next-has y ∙ and-first _ _ w)
 
   peer-mk : (y : ℕ) → y ≢ a → next (viewOf s c) a y ≡ true → has (peersOf a p) y ≡ true
   peer-mk y ne e = has-peers a p y ∙ and-mk _ _ (sym (next-has y) ∙ e) (ap not (same-off y a ne))
 
   next-low : (y : ℕ) → next (viewOf s c) a y ≡ true → y < s .n
   unfolding next
-  next-low y e = B .current-low a y (and-l _ _ e)
+  next-low y e = B .current-low a y (and-first _ _ e)
 
   -- the estimate that such a member sent in this round is the one it closed its round q with
   peer-row : (y : ℕ) → y ≢ a → next (viewOf s c) a y ≡ true → rowOf s y q ≡ rows y
   unfolding next rowsAt viewOf
-  peer-row y ne e = row-open s y q (go (or-cases _ _ (and-r _ _ e))) ∙ rw is-at
+  peer-row y ne e = row-open s y q (go (or-cases _ _ (and-second _ _ e))) ∙ rw is-at
     where
       go : (same y a ≡ true) ⊎ (heard p (p .round) y ≡ true) → q < processAt s y .round
       go (inl t) = absurd (ne (same-on y a t))
@@ -319,7 +319,7 @@ module _ (s : Bench) (c : ℕ → Bool) (Z : Sized s) (K : Bounds s) (B : Basic 
   module _ (c′ : ℕ → Bool) (e : closeDecides s a ≡ true)
       (there : (x : ℕ) → x ≢ a → c′ x ≡ c x) (here : c′ a ≡ true) where
     decide-placed : Placed s (withProcess s a (decidedAt s a)) a (decidedAt s a)
-    decide-placed = placed-process s a (decidedAt s a) Z (low s K a h)
+    decide-placed = placed-process s a (decidedAt s a) Z (place-low s K a h)
 
     decide-rest : (withProcess s a (decidedAt s a) .crashed ≡ s .crashed)
         × (withProcess s a (decidedAt s a) .in_transit ≡ s .in_transit)
@@ -363,14 +363,14 @@ module _ (s : Bench) (c : ℕ → Bool) (Z : Sized s) (K : Bounds s) (B : Basic 
   -- it opens the next round
   module _ (c′ : ℕ → Bool) (e : closeDecides s a ≡ false)
       (same-closers : (x : ℕ) → c′ x ≡ c x) where
-    more : q < s .t
-    more = omega (arith, open-round (s .n) (s .t) a (rowsFor s a) (processAt s a) e, process-low s K a .round)
+    below-limit : q < s .t
+    below-limit = omega (arith, open-round (s .n) (s .t) a (rowsFor s a) (processAt s a) e, process-low s K a .round)
 
     open-placed : Placed s (opensRound s a (advancedAt s a)) a (advancedAt s a)
     unfolding advanceOf openRoundOf
     open-placed =
-        placed-opens s a (advancedAt s a) Z (low s K a h) (round-low s K) (omega arith)
-        (omega (arith, more, K .few, K .limit))
+        placed-opens s a (advancedAt s a) Z (place-low s K a h) (round-low s K) (omega arith)
+        (omega (arith, below-limit, K .few, K .limit))
 
     open-rest : (opensRound s a (advancedAt s a) .crashed ≡ s .crashed)
         × (opensRound s a (advancedAt s a) .in_transit ≡ s .in_transit)
@@ -382,7 +382,8 @@ module _ (s : Bench) (c : ℕ → Bool) (Z : Sized s) (K : Bounds s) (B : Basic 
     open-row =
         let r : advancedAt s a .round ≡ suc (suc q) = omega arith in
         row-open _ a (suc q) (rw (open-placed .here) (omega arith))
-        ∙ rw (← r) (opens-sent s a (advancedAt s a) Z (low s K a h) (omega (arith, more, K .few, K .limit)))
+        ∙ rw (← r)
+        (opens-sent s a (advancedAt s a) Z (place-low s K a h) (omega (arith, below-limit, K .few, K .limit)))
 
     open-closed : Closed s (opensRound s a (advancedAt s a)) c c′ a q (advancedAt s a)
     unfolding advanceOf openRoundOf viewOf
@@ -405,14 +406,14 @@ module _ (s : Bench) (c : ℕ → Bool) (Z : Sized s) (K : Bounds s) (B : Basic 
         let P = open-placed in
         record {
           close = close-view _ c′ _ open-closed;
-          more = more;
+          more = below-limit;
           round = rw (P .here) (omega arith);
           decided = rw (P .here) (advance-decided (processAt s a) a (filledAt s a) ∙ open-here);
           previous = λ y. rw (P .here);
           current = λ y. rw (P .here) (sym (next-has s c K B a q is-at y));
           outbox =
               λ y. rw (P .here)
-              (has-remove _ a y ∙ ap (λ (u : Bool). u && not (same y a)) (sym (next-has s c K B a q is-at y)));
+              (has-remove _ a y ∙ ap (λ (u : Bool). u and not (same y a)) (sym (next-has s c K B a q is-at y)));
           why = rw open-row (reason s c K B a q is-at e);
         }
 
@@ -424,14 +425,14 @@ module _ (s : Bench) (a : ℕ) where
   unfolding effect closesAs
   effect-decides e =
       rw (close-on (s .n) (s .t) a (rowsFor s a) (processAt s a) e)
-      (choose-on _ _ _ (decide-decided (processAt s a) _ _))
+      (select-on _ _ _ (decide-decided (processAt s a) _ _))
 
   effect-opens : hasDecided (processAt s a) ≡ false → closeDecides s a ≡ false
       → effect (CloseOf a) s ≡ opensRound s a (advancedAt s a)
   unfolding effect closesAs
   effect-opens d e =
       rw (close-off (s .n) (s .t) a (rowsFor s a) (processAt s a) e)
-      (choose-off _ _ _ (advance-decided (processAt s a) a (filledAt s a) ∙ d))
+      (select-off _ _ _ (advance-decided (processAt s a) a (filledAt s a) ∙ d))
 
 module _ (s : Bench) (c : ℕ → Bool) (Z : Sized s) (K : Bounds s) (B : Basic (s .n) (s .t) (viewOf s c)) where
   abbrev Ends : ℕ → Type 0
@@ -454,20 +455,20 @@ module _ (s : Bench) (c : ℕ → Bool) (Z : Sized s) (K : Bounds s) (B : Basic 
       q = processAt s a .round - 1
 
       open-here : hasDecided (processAt s a) ≡ false
-      open-here = not-on _ (and-r _ _ (and-l _ _ (A .pass7)))
+      open-here = not-on _ (and-second _ _ (and-first _ _ (A .pass7)))
 
       is-at : processAt s a .round ≡ suc q
-      is-at = omega (arith, below-on _ _ (and-l _ _ (and-l _ _ (A .pass7))))
+      is-at = omega (arith, less-on _ _ (and-first _ _ (and-first _ _ (A .pass7))))
 
       none : processAt s a .outbox ≡ 0
-      none = same-on _ _ (and-r _ _ (A .pass7))
+      none = same-on _ _ (and-second _ _ (A .pass7))
 
       go : Is (closeDecides s a)
           → Open (s .n) (s .t) (viewOf s c) (viewOf (effect (CloseOf a) s) (closersOf (CloseOf a) s c)) a q
           ⊎ Decide (s .n) (s .t) (viewOf s c) (viewOf (effect (CloseOf a) s) (closersOf (CloseOf a) s c)) a q
       go (on e) =
           let d =
-          ended a _ _ (effect-decides s a e) (placed-process s a (decidedAt s a) Z (low s K a h))
+          ended a _ _ (effect-decides s a e) (placed-process s a (decidedAt s a) Z (place-low s K a h))
           ∙ decide-decided (processAt s a) _ _ in
           inr (rw (effect-decides s a e)
           (decide-view s c Z K B a q h (A .running) open-here is-at none (A .pass8) _ e (closers-there s c a)

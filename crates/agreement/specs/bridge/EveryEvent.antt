@@ -7,9 +7,9 @@ use Prim.Native.Nat.{ℕ, zero, suc, _≤_, _<_}
 use native.Mathlib.Omega.{arith}
 use Rattle.sets.specs.Set.{has}
 use Rattle.sets.specs.Laws.{empty-by}
-use Rattle.sets.specs.Truth.{_||_}
-use Rattle.sets.specs.TruthLaws.{Is, on, off, is, off-by, and-r, and-mk, and-off-r}
-use Rattle.sets.specs.TruthLaws.{or-mk-l, or-mk-r, same-mk, below-mk, eq-or, le-or}
+use Rattle.sets.specs.Truth.{_or_}
+use Rattle.sets.specs.TruthLaws.{Is, on, off, is, off-by, and-second, and-mk, and-off-r}
+use Rattle.sets.specs.TruthLaws.{or-mk-l, or-mk-r, same-mk, less-mk, eq-or, le-or}
 use Rattle.process.specs.Steps.{hasDecided, takesPart, arrivedOf, dueOf}
 use Rattle.process.specs.Laws.{has-arrived, due-mk}
 use Rattle.bench.specs.declared.Bench.{Bench}
@@ -25,7 +25,8 @@ use Rattle.bench.specs.Refuse.{actor, numberOf, passes7, passes8, refuses, isCr
 use Rattle.bench.specs.RefuseLaws.{passes-mk, ninth-other}
 use Rattle.bench.specs.SoundLaws.{Bounds, process-low, sound-on}
 use Rattle.bench.specs.Effect.{effect}
-use Rattle.agreement.specs.view.View.{View, Start, Send, Keep, Adopt, Ignore, Open, Decide, Crash, Suspect, Step}
+use Rattle.agreement.specs.view.View.{View, Start, Send, Keep, Adopt, Ignore, Open, Decide, Crash, Suspect}
+use Rattle.agreement.specs.view.View.{OneStep}
 use Rattle.agreement.specs.view.View.{starts, sends, keeps, adopts, ignores, opens, decides, crashes, suspects}
 use Rattle.agreement.specs.view.Basic.{Basic}
 use Rattle.agreement.specs.invariants.QuietEnd.{Still}
@@ -45,7 +46,7 @@ StepOf (CloseOf a) n t s s′ = (q : ℕ) × (Open n t s s′ a q ⊎ Decide n t
 StepOf (CrashOf a) n t s s′ = Crash n t s s′ a
 StepOf (SuspectOf a b) n t s s′ = Suspect n s s′ a b
 
-pub step-from : (e : Event) (n t : ℕ) (s s′ : View) → StepOf e n t s s′ → Step n t s s′
+pub step-from : (e : Event) (n t : ℕ) (s s′ : View) → StepOf e n t s s′ → OneStep n t s s′
 unfolding StepOf
 step-from (StartOf a v) n t s s′ S = starts S
 step-from (SendOf a b) n t s s′ S = sends S
@@ -55,7 +56,7 @@ step-from (ArriveOf a b Decision) n t s s′ (inl S) = adopts S
 step-from (ArriveOf a b Decision) n t s s′ (inr S) = ignores S
 step-from (CloseOf a) n t s s′ w = go (w .1)
   where
-    go : Open n t s s′ a (w .0) ⊎ Decide n t s s′ a (w .0) → Step n t s s′
+    go : Open n t s s′ a (w .0) ⊎ Decide n t s s′ a (w .0) → OneStep n t s s′
     go (inl S) = opens S
     go (inr S) = decides S
 step-from (CrashOf a) n t s s′ S = crashes S
@@ -106,7 +107,7 @@ pub event-step : (s : Bench) (c : ℕ → Bool) (e : Event) → Sized s → soun
     → Basic (s .n) (s .t) (viewOf s c)
     → refuses e s ≡ 0
     → (c′ : ℕ → Bool)
-    × Step (s .n) (s .t) (viewOf s c) (viewOf (effect e s) c′)
+    × OneStep (s .n) (s .t) (viewOf s c) (viewOf (effect e s) c′)
     × ((x : ℕ) → (c′ x ≡ c x) ⊎ ((e ≡ CloseOf x) × (hasDecided (processAt (effect e s) x) ≡ true) × (c′ x ≡ true)))
 event-step s c e Z h r B z = (closersOf e s c, step-from e _ _ _ _ (event-is s c e Z h r B z), closers-tie e s c)
 
@@ -178,9 +179,10 @@ module _ (s : Bench) (c : ℕ → Bool) (K : Bounds s)
     where
       go : (y : ℕ) → (y ≡ a) ⊎ (heard (processAt s a) (processAt s a .round) y ≡ true)
           ⊎ (has (processAt s a .suspected) y ≡ true)
-          → (has (arrivedOf a (processAt s a)) y || has (processAt s a .suspected) y) ≡ true
+          → (has (arrivedOf a (processAt s a)) y or has (processAt s a .suspected) y) ≡ true
       go y (inl e) = or-mk-l _ _ (has-arrived a (processAt s a) y ∙ or-mk-l _ _ (same-mk y a e))
-      go y (inr (inl e)) = or-mk-l _ _ (has-arrived a (processAt s a) y ∙ or-mk-r _ _ (and-r _ _ (and-r _ _ e)))
+      go y (inr (inl e)) = or-mk-l _ _ (has-arrived a (processAt s a) y
+          ∙ or-mk-r _ _ (and-second _ _ (and-second _ _ e)))
       go y (inr (inr e)) = or-mk-r _ _ e
 
   close-refused : (a : ℕ) → a < s .n → crashedAt s a ≡ false → hasDecided (processAt s a) ≡ false
@@ -191,7 +193,7 @@ module _ (s : Bench) (c : ℕ → Bool) (K : Bounds s)
       refused (CloseOf a) h tt refl (passes-mk (CloseOf a) s record {
         running = run;
         pass7 =
-            and-mk _ _ (and-mk _ _ (below-mk _ _ l) (ap not d))
+            and-mk _ _ (and-mk _ _ (less-mk _ _ l) (ap not d))
             (same-mk _ _ (empty-by (s .n) _ (process-low s K a .outbox) (λ y w. none y)));
         pass8 = due;
         pass9 = ninth-other _ s refl;

@@ -4,7 +4,7 @@ use mathlib.Core.Logic.{_≢_, _⊎_, inl, inr}
 use Prim.Native.Nat.{ℕ, _<_}
 use native.Mathlib.Omega.{arith}
 use lib.ListN.{length, length-set, length-replicate, getD-replicate}
-use Rattle.sets.specs.TruthLaws.{choose-by, eq-or}
+use Rattle.sets.specs.TruthLaws.{select-by, eq-or}
 use Rattle.global_data.specs.declared.GlobalData.{GlobalData}
 use Rattle.global_data.specs.GlobalData.{nothingOf}
 use Rattle.process.specs.declared.Process.{Process}
@@ -94,6 +94,6 @@ sized-effect (Arrive a b Decision) s Z =
     sized-transit _ (sized-by s b _ Z (adopt-length (processAt s b) (s .n) b a _)) _ _ _
 sized-effect (Close a) s Z =
     let h = close-length (processAt s a) (s .n) (s .t) a _ in
-    choose-by Sized _ _ _ (λ e. sized-by s a _ Z h) (λ e. sized-opens s a _ Z h)
+    select-by Sized _ _ _ (λ e. sized-by s a _ Z h) (λ e. sized-opens s a _ Z h)
 sized-effect (Crash a) s Z = sized-crashed s Z a
 sized-effect (Suspect a b) s Z = sized-by s a _ Z (suspect-length (processAt s a) b)

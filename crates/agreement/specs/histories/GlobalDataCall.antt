@@ -8,8 +8,8 @@ use native.Mathlib.Omega.{arith}
 use lib.ListN.{length, drop}
 use Rattle.sets.specs.Lists.{each}
 use Rattle.sets.specs.Truth.{same, oneTo, check}
-use Rattle.sets.specs.TruthLaws.{choose-on, choose-off, and-mk, same-mk, same-off}
-use Rattle.sets.specs.TruthLaws.{below-mk, below-off, check-on, check-off}
+use Rattle.sets.specs.TruthLaws.{select-on, select-off, and-mk, same-mk, same-off}
+use Rattle.sets.specs.TruthLaws.{less-mk, less-off, check-on, check-off}
 use Rattle.process.specs.Steps.{hasDecided}
 use Rattle.bench.specs.declared.Bench.{Bench}
 use Rattle.bench.specs.declared.Shown.the-variants.{Marks, Refused}
@@ -27,8 +27,8 @@ module _ (s : Bench) (x : ℕ) (out : List ℕ) (sound : soundOf s ≡ true) (lo
   unfolding showRefusal oneTo
   last-check =
       check-on _ 2 _ sound
-      ∙ check-on _ 5 _ (and-mk _ _ (below-mk 0 (suc x) (omega arith)) (below-mk (suc x) (s .n + 1) (omega arith)))
-      ∙ check-on _ 10 _ (ap not (below-off (length out) (s .n) room))
+      ∙ check-on _ 5 _ (and-mk _ _ (less-mk 0 (suc x) (omega arith)) (less-mk (suc x) (s .n + 1) (omega arith)))
+      ∙ check-on _ 10 _ (ap not (less-off (length out) (s .n) room))
       ∙ ap (λ (y : ℕ). check (hasDecided (processAt s y)) 11 0) number
 
   pub shows-decided : hasDecided (processAt s x) ≡ true
@@ -37,8 +37,8 @@ module _ (s : Bench) (x : ℕ) (out : List ℕ) (sound : soundOf s ≡ true) (lo
   unfolding showOf shownIn
   shows-decided d =
       let z : same (showRefusal s (suc x) out) 0 ≡ true = same-mk _ 0 (last-check ∙ check-on _ 11 0 d) in (
-        choose-on _ _ _ z ∙ ap (λ (y : ℕ). Marks (processAt s y .estimate .present)) number,
-        choose-on _ _ _ z ∙ ap (λ (y : ℕ). each (s .n) (wordAt (processAt s y .estimate)) ++ drop (s .n) out) number,
+        select-on _ _ _ z ∙ ap (λ (y : ℕ). Marks (processAt s y .estimate .present)) number,
+        select-on _ _ _ z ∙ ap (λ (y : ℕ). each (s .n) (wordAt (processAt s y .estimate)) ++ drop (s .n) out) number,
       )
 
   pub hides-undecided : hasDecided (processAt s x) ≡ false
@@ -47,4 +47,4 @@ module _ (s : Bench) (x : ℕ) (out : List ℕ) (sound : soundOf s ≡ true) (lo
   hides-undecided d =
       let e : showRefusal s (suc x) out ≡ 11 = last-check ∙ check-off _ 11 0 d in
       let z : same (showRefusal s (suc x) out) 0 ≡ false = same-off _ 0 (omega arith) in
-      (choose-off _ _ _ z ∙ ap (λ (k : ℕ). Refused (refused k)) e, choose-off _ _ _ z)
+      (select-off _ _ _ z ∙ ap (λ (k : ℕ). Refused (refused k)) e, select-off _ _ _ z)

@@ -12,9 +12,10 @@ use Rattle.bench.specs.Sound.{opens, soundOf}
 use Rattle.bench.specs.SoundLaws.{sound-opened}
 use Rattle.bench.specs.RecordLaws.{inRange}
 use Rattle.bench.specs.Effect.{effect}
-use Rattle.agreement.specs.statement.History.{afterEvents, afterHistory}
+use Rattle.bench.specs.Calls.{afterEvents}
+use Rattle.agreement.specs.statement.History.{afterHistory}
 use Rattle.agreement.specs.histories.Replay.{Next, reached-next, sizes-to, sizes-from}
-use Rattle.agreement.specs.view.View.{View, Step, Opened}
+use Rattle.agreement.specs.view.View.{View, OneStep, Opened}
 use Rattle.agreement.specs.view.Basic.{Basic}
 use Rattle.agreement.specs.invariants.Safety.{Good, good-opened, good-step}
 use Rattle.agreement.specs.invariants.NoMessageLost.{Wire, wire-opened, wire-step}
@@ -34,7 +35,7 @@ fit-opened : (n t : ℕ) (s : View) → Opened s → Fit n t 0 s
 fit-opened n t s O =
     record { good = good-opened n t s O; wire = wire-opened n t s O; once = once-opened O; worked = omega arith }
 
-fit-step : (n t size : ℕ) (s s′ : View) → Fit n t size s → Step n t s s′ → Fit n t (suc size) s′
+fit-step : (n t size : ℕ) (s s′ : View) → Fit n t size s → OneStep n t s s′ → Fit n t (suc size) s′
 fit-step n t size s s′ F S =
     let B = F .good .basic in
     let G = good-step n t s s′ (F .good) S in
@@ -54,7 +55,7 @@ pub record Along (n t : ℕ) (h : List Event) : Type 0 where
 
 pub record Further (n t : ℕ) (h : List Event) (e : Event) (A : Along n t h) : Type 0 where
   pub further : Along n t (h ++ (e ∷ []))
-  pub step : Step n t (viewOf (afterHistory n t h) (A .closers))
+  pub step : OneStep n t (viewOf (afterHistory n t h) (A .closers))
       (viewOf (afterHistory n t (h ++ (e ∷ []))) (further .closers))
 
 pub along-opened : (n t : ℕ) → opens n t ≡ true → Along n t []
@@ -80,13 +81,13 @@ along-next n t h e N A = record {
     s : Bench
     s = afterHistory n t h
 
-    M : (c′ : ℕ → Bool) × Step n t (viewOf s (A .closers)) (viewOf (effect e s) c′)
+    M : (c′ : ℕ → Bool) × OneStep n t (viewOf s (A .closers)) (viewOf (effect e s) c′)
     M =
         let E = event-step s (A .closers) e (A .sized) (N .sound) (sizes-to n t h (λ m u. inRange m u e) (N .range))
         (sizes-to n t h (λ m u. Basic m u (viewOf s (A .closers))) (A .fit .good .basic)) (N .passes) in
-        (E .0, sizes-from n t h (λ m u. Step m u (viewOf s (A .closers)) (viewOf (effect e s) (E .0))) (E .1))
+        (E .0, sizes-from n t h (λ m u. OneStep m u (viewOf s (A .closers)) (viewOf (effect e s) (E .0))) (E .1))
 
-    step : Step n t (viewOf s (A .closers)) (viewOf (afterHistory n t (h ++ (e ∷ []))) (M .0))
+    step : OneStep n t (viewOf s (A .closers)) (viewOf (afterHistory n t (h ++ (e ∷ []))) (M .0))
     step = rw (reached-next n t h e) (M .1)
 
     longer : length (h ++ (e ∷ [])) ≡ suc (length h)

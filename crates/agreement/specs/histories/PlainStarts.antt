@@ -8,11 +8,11 @@ use mathlib.Core.Logic.{⊎-elim}
 use Prim.Native.Nat.{ℕ, _≤_, _<_}
 use native.Mathlib.Omega.{arith}
 use Rattle.sets.specs.Lists.{everyIn}
-use Rattle.sets.specs.Truth.{_&&_, choose}
-use Rattle.sets.specs.TruthLaws.{Is, on, off, is, clash, choose-on, choose-off, and-l, and-r, and-cases}
-use Rattle.sets.specs.TruthLaws.{off-by, same-on, same-refl, below-mk, below-not, le-or}
+use Rattle.sets.specs.Truth.{_and_, select}
+use Rattle.sets.specs.TruthLaws.{Is, on, off, is, clash, select-on, select-off, and-first, and-second, and-cases}
+use Rattle.sets.specs.TruthLaws.{off-by, same-on, same-refl, less-mk, less-not, le-or}
 use Rattle.global_data.specs.GlobalData.{portionsOf, dietOf, valueIn, entryOf}
-use Rattle.global_data.specs.Laws.{entry-present, not-both, orElse-absent, orElse-value}
+use Rattle.global_data.specs.Laws.{entry-present, not-both, orEntry-absent, orEntry-value}
 use Rattle.bench.specs.declared.Event.{Event}
 use Rattle.bench.specs.declared.Event.the-variants.{Start, Send, Arrive, Close, Crash, Suspect}
 use Rattle.bench.specs.State.{processAt, sentAt}
@@ -22,7 +22,8 @@ use Rattle.bench.specs.RefuseLaws.{passes-on}
 use Rattle.bench.specs.Refuse.{passes7}
 use Rattle.bench.specs.Carry.{plainBench, carryRefusal, plainStart}
 use Rattle.bench.specs.CarryLaws.{carry-large, carry-plain, PlainBench, bench-on, bench-mk, plain-opened, plain-effect}
-use Rattle.agreement.specs.statement.History.{afterEvents, afterHistory, startedWith}
+use Rattle.bench.specs.Calls.{afterEvents}
+use Rattle.agreement.specs.statement.History.{afterHistory, startedWith}
 use Rattle.agreement.specs.bridge.BenchView.{rowOf, viewOf}
 use Rattle.agreement.specs.histories.Append.{started-append}
 use Rattle.agreement.specs.histories.Replay.{Next, reached-next, reached-sizes, sizes-to}
@@ -47,23 +48,23 @@ starts-opened n t = record { plain = λ e. plain-opened n t; large = λ e. clash
 -- an event that is not plain is a start
 large-start : (e : Event) → plainStart e ≡ false → (a v : ℕ) × (e ≡ Start a v) × (65536 ≤ v)
 unfolding plainStart
-large-start (Start a v) f = (a, v, refl, below-not v 65536 f)
+large-start (Start a v) f = (a, v, refl, less-not v 65536 f)
 large-start (Send a b) f = clash true refl f
 large-start (Arrive a b m) f = clash true refl f
 large-start (Close a) f = clash true refl f
 large-start (Crash a) f = clash true refl f
 large-start (Suspect a b) f = clash true refl f
 
-pub every-append : {A : Type 0} (p : A → Bool) (h : List A) (e : A) → everyIn p (h ++ (e ∷ [])) ≡ (everyIn p h && p e)
-unfolding everyIn _&&_
+pub every-append : {A : Type 0} (p : A → Bool) (h : List A) (e : A) → everyIn p (h ++ (e ∷ [])) ≡ (everyIn p h and p e)
+unfolding everyIn _and_
 every-append p [] e = go (p e)
   where
-    go : (b : Bool) → (b && true) ≡ b
+    go : (b : Bool) → (b and true) ≡ b
     go true = refl
     go false = refl
-every-append p (x ∷ h) e = ap (λ b. p x && b) (every-append p h e) ∙ go (p x)
+every-append p (x ∷ h) e = ap (λ b. p x and b) (every-append p h e) ∙ go (p x)
   where
-    go : (b : Bool) → (b && (everyIn p h && p e)) ≡ ((b && everyIn p h) && p e)
+    go : (b : Bool) → (b and (everyIn p h and p e)) ≡ ((b and everyIn p h) and p e)
     go true = refl
     go false = refl
 
@@ -73,8 +74,8 @@ module _ (n t : ℕ) (h : List Event) (e : Event) (N : Next n t h e) (T : Told n
       let q = sym (every-append plainStart h e) ∙ f in
       let B = sound-on (afterHistory n t h) (N .sound) in
       rw (reached-next n t h e)
-      (plain-effect (afterHistory n t h) (omega (arith, B .few)) (S .plain (and-l _ _ q)) e
-      (sizes-to n t h (λ m u. inRange m u e) (N .range)) (and-r _ _ q))
+      (plain-effect (afterHistory n t h) (omega (arith, B .few)) (S .plain (and-first _ _ q)) e
+      (sizes-to n t h (λ m u. inRange m u e) (N .range)) (and-second _ _ q))
 
   -- one that stands there already stays; a new one is the first of its process
   stays : Large h → Large (h ++ (e ∷ []))
@@ -83,7 +84,7 @@ module _ (n t : ℕ) (h : List Event) (e : Event) (N : Next n t h e) (T : Told n
         who = L .who;
         value = L .value;
         exceeds = L .exceeds;
-        started = started-append h (e ∷ []) (L .who) ∙ orElse-value _ _ _ (L .started);
+        started = started-append h (e ∷ []) (L .who) ∙ orEntry-value _ _ _ (L .started);
       }
 
   begins : (a v : ℕ) → e ≡ Start a v → 65536 ≤ v → Large (h ++ (e ∷ []))
@@ -95,8 +96,8 @@ module _ (n t : ℕ) (h : List Event) (e : Event) (N : Next n t h e) (T : Told n
         value = v;
         exceeds = l;
         started =
-            started-append h (e ∷ []) a ∙ orElse-absent _ _ (T .begun a .unstarted z)
-            ∙ ap (λ x. startedWith (x ∷ []) a) q ∙ choose-on _ _ _ (same-refl a);
+            started-append h (e ∷ []) a ∙ orEntry-absent _ _ (T .begun a .unstarted z)
+            ∙ ap (λ x. startedWith (x ∷ []) a) q ∙ select-on _ _ _ (same-refl a);
       }
 
   comes : plainStart e ≡ false → Large (h ++ (e ∷ []))
@@ -124,7 +125,7 @@ module _ (n t : ℕ) (h : List Event) (A : Along n t h) (T : Told n t h) (S : St
       let p = processAt (afterHistory n t h) k in
       let row = sentAt (afterHistory n t h) k 1 in
       let l = begun k v e in
-      let first = choose-on _ row (p .estimate) (below-mk 0 (p .round) l) in
+      let first = select-on _ row (p .estimate) (less-mk 0 (p .round) l) in
       let own = A .fit .good .estimates .own k 0 (omega arith) in
       entry-present row k (rw first at own) ∙ (rw first at (sym (T .begun k .started l))) ∙ e
 
@@ -144,11 +145,11 @@ module _ (n t : ℕ) (h : List Event) (A : Along n t h) (T : Told n t h) (S : St
         bench-on (afterHistory n t h) p .sent _ (L .who) (L .value) low (shown (L .who) (L .value) (L .started)),
       ))
 
-  pub carry-history : carryRefusal (afterHistory n t h) ≡ choose (everyIn plainStart h) 0 16
+  pub carry-history : carryRefusal (afterHistory n t h) ≡ select (everyIn plainStart h) 0 16
   carry-history = go (is (everyIn plainStart h))
     where
-      go : Is (everyIn plainStart h) → carryRefusal (afterHistory n t h) ≡ choose (everyIn plainStart h) 0 16
+      go : Is (everyIn plainStart h) → carryRefusal (afterHistory n t h) ≡ select (everyIn plainStart h) 0 16
       go (on e) =
           carry-plain (afterHistory n t h) (A .sound) (bench-mk (afterHistory n t h) (S .plain e))
-          ∙ sym (choose-on _ _ _ e)
-      go (off e) = carry-large (afterHistory n t h) (A .sound) (not-plain (S .large e)) ∙ sym (choose-off _ _ _ e)
+          ∙ sym (select-on _ _ _ e)
+      go (off e) = carry-large (afterHistory n t h) (A .sound) (not-plain (S .large e)) ∙ sym (select-off _ _ _ e)

@@ -6,9 +6,9 @@ use mathlib.Core.Bool.{true, false, not}
 use Prim.Native.Nat.{ℕ, zero, suc, _+_, _*_, _≤_, _<_}
 use native.Mathlib.Omega.{arith}
 use Rattle.sets.specs.TruthLaws.{Is, is, on, off, clash, not-on, eq-or, le-or}
-use Rattle.sets.specs.Lists.{count}
+use Rattle.sets.specs.Lists.{countTo}
 use Rattle.sets.specs.CountLaws.{count-mono}
-use Rattle.agreement.specs.view.View.{View, Others, SameDecision, Decide, Step}
+use Rattle.agreement.specs.view.View.{View, Others, SameDecision, Decide, OneStep}
 use Rattle.agreement.specs.view.Basic.{Basic}
 use Rattle.agreement.specs.view.FourKinds.{Adopted, Kind, quietly, starting, opening, deciding, kind}
 use Rattle.agreement.specs.view.NewEstimate.{next-running, next-closed, close-fill}
@@ -18,10 +18,10 @@ use Rattle.agreement.specs.invariants.Decisions.{Decisions, Source, outs
 
 module _ (n t : ℕ) (s : View) (B : Basic n t s) (E : Estimates n t s) (D : Decisions n t s) where
   -- after an early decision of a every estimate is the one decided on
-  flat : (a q : ℕ) → s .closed a ≡ suc (s .round a) → s .round a ≡ suc q → q < t
+  locked : (a q : ℕ) → s .closed a ≡ suc (s .round a) → s .round a ≡ suc q → q < t
       → (l : ℕ) → q ≤ l → (x k : ℕ) → k < n → l < s .closed x → s .row x l k ≡ s .row a (suc q) k
-  flat a q c r d zero o x k kn w = let z : q ≡ 0 = omega arith in rw (← z) (D .lock a x q c r d (omega arith) k kn)
-  flat a q c r d (suc l) o x k kn w = go (le-or q l) (λ h y v. flat a q c r d l h y k kn v)
+  locked a q c r d zero o x k kn w = let z : q ≡ 0 = omega arith in rw (← z) (D .lock a x q c r d (omega arith) k kn)
+  locked a q c r d (suc l) o x k kn w = go (le-or q l) (λ h y v. locked a q c r d l h y k kn v)
     where
       by : ((y : ℕ) → l < s .closed y → s .row y l k ≡ s .row a (suc q) k) → Is (s .row x (suc l) k)
           → Is (s .row x l k) → s .row x (suc l) k ≡ s .row a (suc q) k
@@ -48,7 +48,7 @@ module _ (n t : ℕ) (s : View) (B : Basic n t s) (E : Estimates n t s) (D : Dec
       early : s .round a ≤ t → s .row a (s .round a) k ≡ s .row b (s .round b) k
       early w =
           let (q, e) = pos (s .round a) h in
-          ap (λ l. s .row a l k) e ∙ sym (flat a q c e (omega arith) (s .round b) (omega arith) b k kn (omega arith))
+          ap (λ l. s .row a l k) e ∙ sym (locked a q c e (omega arith) (s .round b) (omega arith) b k kn (omega arith))
 
       late : t < s .round a → Is (s .row a (s .round a) k) → Is (s .row b (s .round a) k)
           → s .row a (s .round a) k ≡ s .row b (s .round a) k
@@ -94,7 +94,7 @@ module _ (n t : ℕ) (s : View) (B : Basic n t s) (E : Estimates n t s) (D : Dec
 
   -- who is outside either set has crashed
   outside-few : (a : ℕ) → 1 ≤ s .round a
-      → (outside n (s .previous a) ≤ count n (s .crashed)) × (outside n (s .current a) ≤ count n (s .crashed))
+      → (outside n (s .previous a) ≤ countTo n (s .crashed)) × (outside n (s .current a) ≤ countTo n (s .crashed))
   unfolding outside
   outside-few a h = (
     count-mono n (λ y. not (s .previous a y)) (s .crashed)
@@ -103,10 +103,10 @@ module _ (n t : ℕ) (s : View) (B : Basic n t s) (E : Estimates n t s) (D : Dec
         (λ y d e. outside-crashed n t s B a y d h (inl (not-on _ e))),
   )
 
-  pub rounds-crashes : (x : ℕ) → s .round x ≤ 3 * count n (s .crashed) + 2
+  pub rounds-crashes : (x : ℕ) → s .round x ≤ 3 * countTo n (s .crashed) + 2
   rounds-crashes x = go (le-or 1 (s .round x))
     where
-      go : (1 ≤ s .round x) ⊎ (s .round x < 1) → s .round x ≤ 3 * count n (s .crashed) + 2
+      go : (1 ≤ s .round x) ⊎ (s .round x < 1) → s .round x ≤ 3 * countTo n (s .crashed) + 2
       go (inl h) = omega (arith, D .rounds x, outside-few x h .0, outside-few x h .1)
       go (inr h) = omega arith
 
@@ -119,7 +119,8 @@ present-at-close n t s s′ B E a q D k d e =
     ∙ close-fill n t s s′ B a q (D .close) k k h (E .own k q (next-closed n t s s′ B a q (D .close) k h))
 
 -- the first decision is one at a close
-pub first-is-close : (n t : ℕ) (s s′ : View) → Basic n t s → ((y : ℕ) → y < n → s .decided y ≡ false) → Step n t s s′
+pub first-is-close : (n t : ℕ) (s s′ : View) → Basic n t s → ((y : ℕ) → y < n → s .decided y ≡ false)
+    → OneStep n t s s′
     → (x : ℕ) → s′ .decided x ≡ true → (q : ℕ) × Decide n t s s′ x q
 first-is-close n t s s′ B none S x e = go (kind n t s s′ B S)
   where

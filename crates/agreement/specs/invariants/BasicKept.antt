@@ -6,12 +6,13 @@ use mathlib.Core.Logic.{_≢_, _⊎_, inl, inr}
 use mathlib.Core.Bool.{true, false, not}
 use Prim.Native.Nat.{ℕ, suc, _≤_, _<_}
 use native.Mathlib.Omega.{arith}
-use Rattle.sets.specs.Truth.{same, below}
-use Rattle.sets.specs.TruthLaws.{clash, off-by, and-l, and-r, and-mk, and-cases}
-use Rattle.sets.specs.TruthLaws.{not-on, not-off, same-mk, below-on, below-mk}
-use Rattle.sets.specs.Lists.{count}
+use Rattle.sets.specs.Truth.{same, less}
+use Rattle.sets.specs.TruthLaws.{clash, off-by, and-first, and-second, and-mk, and-cases}
+use Rattle.sets.specs.TruthLaws.{not-on, not-off, same-mk, less-on, less-mk}
+use Rattle.sets.specs.Lists.{countTo}
 use Rattle.sets.specs.CountLaws.{count-none}
-use Rattle.agreement.specs.view.View.{View, next, Calm, SameDecision, Start, Close, Open, Decide, Step, Opened}
+use Rattle.agreement.specs.view.View.{View, next, Calm, SameDecision, Start, Close, Open, Decide, OneStep}
+use Rattle.agreement.specs.view.View.{Opened}
 use Rattle.agreement.specs.view.Basic.{Basic}
 use Rattle.agreement.specs.view.FourKinds.{at, others-calm, others-decision, others-holds, Adopted}
 use Rattle.agreement.specs.view.FourKinds.{Crashes, same-crashes, Holds, Moved, still-moved}
@@ -45,11 +46,11 @@ record Across (n t : ℕ) (s : View) : Type 0 where
   received-round : (x r y : ℕ) → s .received x r y ≡ true → r ≤ s .round y
   suspected-crashed : (a x : ℕ) → s .suspected a x ≡ true → s .crashed x ≡ true
   crashed-low : (x : ℕ) → s .crashed x ≡ true → x < n
-  few : count n (s .crashed) ≤ t
+  few : countTo n (s .crashed) ≤ t
   sync : (a b : ℕ) → b < n → s .crashed b ≡ false → s .closed a ≤ suc (s .round b)
 
-join : (n t : ℕ) (s : View) → ((x : ℕ) → Own n t s x) → Across n t s → Basic n t s
-join n t s W A = record {
+basic-of : (n t : ℕ) (s : View) → ((x : ℕ) → Own n t s x) → Across n t s → Basic n t s
+basic-of n t s W A = record {
   low = λ x. W x .low;
   closed-lo = λ x. W x .closed-lo;
   closed-hi = λ x. W x .closed-hi;
@@ -171,7 +172,7 @@ module _ (n t : ℕ) (s s′ : View) (B : Basic n t s) (K : Crashes n t s s′) 
 -- ---- the four kinds of step
 module _ (n t : ℕ) (s s′ : View) (B : Basic n t s) where
   quiet-basic : Quiet n t s s′ → Basic n t s′
-  quiet-basic Q = join n t s′ (λ x. own-kept n t s s′ B x (Q .calm x) (Q .decision x) (Q .holds x))
+  quiet-basic Q = basic-of n t s′ (λ x. own-kept n t s s′ B x (Q .calm x) (Q .decision x) (Q .holds x))
       (across-kept n t s s′ B (Q .crashes) (λ x. omega (arith, Q .calm x .round))
       (λ x e. keep x e (Q .decision x)) (Q .transit)
       (λ x r y e. heard x r y (Q .holds x .received r y e)) (λ a x e. gone a x (Q .holds a .suspects x e))
@@ -192,7 +193,7 @@ module _ (n t : ℕ) (s s′ : View) (B : Basic n t s) where
 
   -- a start or a close of a, where a's own part is well afterwards (R1: the running have opened the round that ends)
   grow-basic : (a : ℕ) → Grow n s s′ a → Own n t s′ a → Basic n t s′
-  grow-basic a G W = join n t s′
+  grow-basic a G W = basic-of n t s′
       (at a W (λ x ne. own-kept n t s s′ B x (others-calm s s′ a x (G .others) ne)
       (inl (others-decision s s′ a x (G .others) ne)) (others-holds n s s′ a x (G .others) ne)))
       (across-kept n t s s′ B (same-crashes n t s s′ (G .crashed)) up
@@ -230,22 +231,22 @@ module _ (n t : ℕ) (s s′ : View) (B : Basic n t s) where
     decided-started = λ e. omega (arith, S .round);
     estimate-is = λ q e h k. let z : q ≡ 0 = omega (arith, S .round) in rw z (S .estimate k ∙ sym (S .row k));
     value-is = λ q e h k. let z : q ≡ 0 = omega (arith, S .round) in rw z (S .value-row k);
-    previous-low = λ y e. below-on y n (sym (S .previous y) ∙ e);
-    current-low = λ y e. below-on y n (and-l _ _ (sym (S .current y) ∙ e));
+    previous-low = λ y e. less-on y n (sym (S .previous y) ∙ e);
+    current-low = λ y e. less-on y n (and-first _ _ (sym (S .current y) ∙ e));
     outbox-is = λ y e.
         let h = sym (S .outbox y) ∙ e in (
-          below-on y n (and-l _ _ (sym (S .current y) ∙ and-l _ _ h)),
-          not-self y a (and-r (s′ .current a y) _ h),
+          less-on y n (and-first _ _ (sym (S .current y) ∙ and-first _ _ h)),
+          not-self y a (and-second (s′ .current a y) _ h),
           omega (arith, S .round),
         );
     received-is = received-kept a G;
     suspected-other = suspected-kept a G;
     self =
         λ h. S .current a
-        ∙ and-mk (below a n) _ (below-mk a n (S .low))
+        ∙ and-mk (less a n) _ (less-mk a n (S .low))
         (ap not (off-by (s .suspected a a) (λ e. B .suspected-other a a e refl)));
-    outside = λ y d h e. S .suspected y ∙ out y d (and-cases (below y n) _ (sym (S .current y) ∙ e));
-    nested = λ y h e. S .previous y ∙ and-l _ _ (sym (S .current y) ∙ e);
+    outside = λ y d h e. S .suspected y ∙ out y d (and-cases (less y n) _ (sym (S .current y) ∙ e));
+    nested = λ y h e. S .previous y ∙ and-first _ _ (sym (S .current y) ∙ e);
   }
     where
       G : Grow n s s′ a
@@ -254,8 +255,8 @@ module _ (n t : ℕ) (s s′ : View) (B : Basic n t s) where
       one : s′ .closed a ≡ 1
       one = omega (arith, G .closed-here, G .closed-was, S .was)
 
-      out : (y : ℕ) → y < n → (below y n ≡ false) ⊎ (not (s .suspected a y) ≡ false) → s .suspected a y ≡ true
-      out y d (inl h) = clash (below y n) (below-mk y n d) h
+      out : (y : ℕ) → y < n → (less y n ≡ false) ⊎ (not (s .suspected a y) ≡ false) → s .suspected a y ≡ true
+      out y d (inl h) = clash (less y n) (less-mk y n d) h
       out y d (inr h) = not-off _ h
 
   open-basic : (a q : ℕ) → Open n t s s′ a q → Basic n t s′
@@ -272,8 +273,8 @@ module _ (n t : ℕ) (s s′ : View) (B : Basic n t s) where
     current-low = λ y e. B .current-low a y (next-current s a y (sym (O .current y) ∙ e));
     outbox-is = λ y e.
         let h = sym (O .outbox y) ∙ e in (
-          B .current-low a y (next-current s a y (and-l _ _ h)),
-          not-self y a (and-r (next s a y) _ h),
+          B .current-low a y (next-current s a y (and-first _ _ h)),
+          not-self y a (and-second (next s a y) _ h),
           omega (arith, O .round),
         );
     received-is = received-kept a G;
@@ -305,8 +306,11 @@ module _ (n t : ℕ) (s s′ : View) (B : Basic n t s) where
     previous-low = λ y e. B .previous-low a y (sym (D .previous y) ∙ e);
     current-low = λ y e. B .current-low a y (sym (D .current y) ∙ e);
     outbox-is = λ y e.
-        let h = sym (D .outbox y) ∙ e in
-        (below-on y n (and-l _ _ h), not-self y a (and-l _ _ (and-r (below y n) _ h)), omega (arith, D .round));
+        let h = sym (D .outbox y) ∙ e in (
+          less-on y n (and-first _ _ h),
+          not-self y a (and-first _ _ (and-second (less y n) _ h)),
+          omega (arith, D .round),
+        );
     received-is = received-kept a G;
     suspected-other = suspected-kept a G;
     self = λ h. D .current a ∙ B .self a began;
@@ -326,7 +330,7 @@ module _ (n t : ℕ) (s s′ : View) (B : Basic n t s) where
       began : 1 ≤ s .round a
       began = omega (arith, C .is-at)
 
-pub basic-step : (n t : ℕ) (s s′ : View) → Basic n t s → Step n t s s′ → Basic n t s′
+pub basic-step : (n t : ℕ) (s s′ : View) → Basic n t s → OneStep n t s s′ → Basic n t s′
 basic-step n t s s′ B S = go (kind n t s s′ B S)
   where
     go : Kind n t s s′ → Basic n t s′
@@ -336,7 +340,7 @@ basic-step n t s s′ B S = go (kind n t s s′ B S)
     go (deciding {a} {q} D) = decide-basic n t s s′ B a q D
 
 pub basic-opened : (n t : ℕ) (s : View) → Opened s → Basic n t s
-basic-opened n t s O = join n t s (λ x. record {
+basic-opened n t s O = basic-of n t s (λ x. record {
   low = λ h. absurd (omega (arith, O .round x));
   closed-lo = omega (arith, O .round x);
   closed-hi = omega (arith, O .closed x);

@@ -6,10 +6,10 @@ use mathlib.Core.Bool.{Bool, true, not}
 use Prim.Native.Nat.{ℕ, suc, _+_, _≤_, _<_}
 use native.Mathlib.Omega.{arith}
 use Rattle.sets.specs.TruthLaws.{Is, is, on, off, clash, off-by, not-on, eq-or}
-use Rattle.sets.specs.Lists.{count}
+use Rattle.sets.specs.Lists.{countTo}
 use Rattle.sets.specs.CountLaws.{count-cong, count-mono, count-more}
 use Rattle.agreement.specs.view.View.{View, next, Calm, SameDecision, Differ}
-use Rattle.agreement.specs.view.View.{Start, Close, Open, Decide, Step, Opened}
+use Rattle.agreement.specs.view.View.{Start, Close, Open, Decide, OneStep, Opened}
 use Rattle.agreement.specs.view.Basic.{Basic}
 use Rattle.agreement.specs.view.FourKinds.{at, others-calm, Adopted, Quiet, Kind}
 use Rattle.agreement.specs.view.FourKinds.{quietly, starting, opening, deciding, kind}
@@ -21,7 +21,7 @@ use Rattle.agreement.specs.invariants.Gap.{gap}
 
 -- how many processes a set leaves out
 unfoldable pub outside : ℕ → (ℕ → Bool) → ℕ
-outside n p = count n (λ y. not (p y))
+outside n p = countTo n (λ y. not (p y))
 
 -- x's decision is the last estimate of some process that decided at a close
 pub record Source (n : ℕ) (s : View) (x : ℕ) : Type 0 where
@@ -40,7 +40,7 @@ pub record Decisions (n t : ℕ) (s : View) : Type 0 where
       → k < n → s .row x q k ≡ s .row a (suc q) k
   -- B1
   pub rounds : (a : ℕ)
-      → s .round a ≤ (count n (s .crashed) + 2) + (outside n (s .previous a) + outside n (s .current a))
+      → s .round a ≤ (countTo n (s .crashed) + 2) + (outside n (s .previous a) + outside n (s .current a))
 
 outside-ext : (n : ℕ) (p q : ℕ → Bool) → ((y : ℕ) → p y ≡ q y) → outside n p ≡ outside n q
 unfolding outside
@@ -55,7 +55,7 @@ outside-more n p q a h d ne = go (is (p a)) (is (q a))
     drop : (y : ℕ) → y < n → not (p y) ≡ true → not (q y) ≡ true
     drop y w e = ap not (off-by (q y) (λ f. clash (p y) (h y f) (not-on _ e)))
 
-    go : Is (p a) → Is (q a) → suc (count n (λ y. not (p y))) ≤ count n (λ y. not (q y))
+    go : Is (p a) → Is (q a) → suc (countTo n (λ y. not (p y))) ≤ countTo n (λ y. not (q y))
     go (on e) (on f) = absurd (ne (e ∙ sym f))
     go (on e) (off f) = count-more n (λ y. not (p y)) (λ y. not (q y)) a drop d (ap not e) (ap not f)
     go (off e) (on f) = clash (p a) (h a f) e
@@ -76,8 +76,8 @@ source-kept n s s′ x y S C e v = record {
 
 module _ (n t : ℕ) (s s′ : View) (B : Basic n t s) (D : Decisions n t s) where
   -- the bound of a process whose round and sets stay
-  rounds-kept : (x : ℕ) → Calm s s′ x → count n (s .crashed) ≤ count n (s′ .crashed)
-      → s′ .round x ≤ (count n (s′ .crashed) + 2) + (outside n (s′ .previous x) + outside n (s′ .current x))
+  rounds-kept : (x : ℕ) → Calm s s′ x → countTo n (s .crashed) ≤ countTo n (s′ .crashed)
+      → s′ .round x ≤ (countTo n (s′ .crashed) + 2) + (outside n (s′ .previous x) + outside n (s′ .current x))
   rounds-kept x C f = omega (
     arith,
     D .rounds x,
@@ -115,7 +115,7 @@ module _ (n t : ℕ) (s s′ : View) (B : Basic n t s) (D : Decisions n t s) whe
     grow-decisions : (s′ .decided a ≡ true → Source n s′ a)
         → ((x q : ℕ) → s′ .closed a ≡ suc (s′ .round a) → s′ .round a ≡ suc q → q < t → q < s .closed x → (k : ℕ)
         → k < n → s .row x q k ≡ s′ .row a (suc q) k)
-        → (s′ .round a ≤ (count n (s .crashed) + 2) + (outside n (s′ .previous a) + outside n (s′ .current a)))
+        → (s′ .round a ≤ (countTo n (s .crashed) + 2) + (outside n (s′ .previous a) + outside n (s′ .current a)))
         → Decisions n t s′
     grow-decisions source lock bound = record {
       source = at a source (λ x ne e.
@@ -129,7 +129,7 @@ module _ (n t : ℕ) (s s′ : View) (B : Basic n t s) (D : Decisions n t s) whe
           (λ x ne. rounds-kept x (others-calm s s′ a x (G .others) ne) (omega (arith, same)));
     }
       where
-        same : count n (s′ .crashed) ≡ count n (s .crashed)
+        same : countTo n (s′ .crashed) ≡ countTo n (s .crashed)
         same = count-cong n (s′ .crashed) (s .crashed) (λ x d. G .crashed x)
 
         new : (x q : ℕ) → s′ .closed a ≡ suc (s′ .round a) → s′ .round a ≡ suc q → q < t
@@ -162,19 +162,19 @@ module _ (n t : ℕ) (s s′ : View) (B : Basic n t s) (D : Decisions n t s) whe
   module _ (E : Estimates n t s) (a q : ℕ) (C : Close n s s′ a q) where
     -- two estimates of the next set that differ cost q crashes: values never differ,
     -- so one has an entry that the other lacks
-    differ : (y k : ℕ) → next s a y ≡ true → (p : Bool) (v : ℕ) → p ≡ s .row y q k → v ≡ s .entry y q k
-        → Differ p v (s′ .row a (suc q) k) (s′ .entry a (suc q) k) → q ≤ count n (s .crashed)
+    differs : (y k : ℕ) → next s a y ≡ true → (p : Bool) (v : ℕ) → p ≡ s .row y q k → v ≡ s .entry y q k
+        → Differ p v (s′ .row a (suc q) k) (s′ .entry a (suc q) k) → q ≤ countTo n (s .crashed)
     unfolding Differ
-    differ y k h p v i j (inl ne) = go (is (s .row y q k)) (is (s′ .row a (suc q) k))
+    differs y k h p v i j (inl ne) = go (is (s .row y q k)) (is (s′ .row a (suc q) k))
       where
-        go : Is (s .row y q k) → Is (s′ .row a (suc q) k) → q ≤ count n (s .crashed)
+        go : Is (s .row y q k) → Is (s′ .row a (suc q) k) → q ≤ countTo n (s .crashed)
         go (on e) (on f) = absurd (ne (i ∙ e ∙ sym f))
         go (on e) (off f) = clash (s′ .row a (suc q) k) (close-fill n t s s′ B a q C y k h e) f
         go (off e) (off f) = absurd (ne (i ∙ e ∙ sym f))
         go (off e) (on f) =
             let (z, m, w, g) = close-from n t s s′ B a q C k f in
             gap n t s B E z y q k (next-closed n t s s′ B a q C z m) (next-closed n t s s′ B a q C y h) w e
-    differ y k h p v i j (inr w) =
+    differs y k h p v i j (inr w) =
         let (z, m, r, g) = close-from n t s s′ B a q C k (w .1) in
         absurd (w .2 (j ∙ E .entries y q k (next-closed n t s s′ B a q C y h) (sym i ∙ w .0) .0
         ∙ sym (E .entries z q k (next-closed n t s s′ B a q C z m) r .0) ∙ sym g))
@@ -192,8 +192,8 @@ module _ (n t : ℕ) (s s′ : View) (B : Basic n t s) (D : Decisions n t s) whe
       G : Grow n s s′ a
       G = open-grow n t s s′ B a q O
 
-      few : q ≤ count n (s .crashed)
-          → s′ .round a ≤ (count n (s .crashed) + 2) + (outside n (s′ .previous a) + outside n (s′ .current a))
+      few : q ≤ countTo n (s .crashed)
+          → s′ .round a ≤ (countTo n (s .crashed) + 2) + (outside n (s′ .previous a) + outside n (s′ .current a))
       few h = omega (arith, O .round)
 
       go : ((y : ℕ) × (y < n) × (s .previous a y ≢ next s a y))
@@ -201,7 +201,7 @@ module _ (n t : ℕ) (s s′ : View) (B : Basic n t s) (D : Decisions n t s) whe
           × Differ (s .estimate a k) (s .value a k) (s′ .row a (suc q) k) (s′ .entry a (suc q) k))
           ⊎ ((y k : ℕ) × (y < n) × (y ≢ a) × (next s a y ≡ true) × (k < n)
           × Differ (s .row y q k) (s .entry y q k) (s′ .row a (suc q) k) (s′ .entry a (suc q) k)))
-          → s′ .round a ≤ (count n (s .crashed) + 2) + (outside n (s′ .previous a) + outside n (s′ .current a))
+          → s′ .round a ≤ (countTo n (s .crashed) + 2) + (outside n (s′ .previous a) + outside n (s′ .current a))
       go (inl w) = omega (
         arith,
         O .round,
@@ -213,9 +213,9 @@ module _ (n t : ℕ) (s s′ : View) (B : Basic n t s) (D : Decisions n t s) whe
             (λ y e. B .nested a y (omega (arith, C .is-at)) (next-current s a y e)) (w .1) (w .2),
       )
       go (inr (inl w)) =
-          few (differ E a q C a (w .0) (next-self n t s s′ B a q C) _ _ (own-row n t s s′ B a q C (w .0))
+          few (differs E a q C a (w .0) (next-self n t s s′ B a q C) _ _ (own-row n t s s′ B a q C (w .0))
           (own-entry n t s s′ B a q C (w .0)) (w .2))
-      go (inr (inr w)) = few (differ E a q C (w .0) (w .1) (w .4) _ _ refl refl (w .6))
+      go (inr (inr w)) = few (differs E a q C (w .0) (w .1) (w .4) _ _ refl refl (w .6))
 
   -- D2: who has closed as many rounds is in the previous set, so in the next one, and the test compared its estimate
   decide-decisions : Estimates n t s → (a q : ℕ) → Decide n t s s′ a q → Decisions n t s′
@@ -259,7 +259,7 @@ module _ (n t : ℕ) (s s′ : View) (B : Basic n t s) (D : Decisions n t s) whe
       lock x d h k kn (inl e) = rw e (sym (own-row n t s s′ B a q C k) ∙ F .same-own d k kn)
       lock x d h k kn (inr ne) = F .same-rows d x k kn ne (member x d h (is (s .previous a x)))
 
-pub decisions-step : (n t : ℕ) (s s′ : View) → Basic n t s → Estimates n t s → Decisions n t s → Step n t s s′
+pub decisions-step : (n t : ℕ) (s s′ : View) → Basic n t s → Estimates n t s → Decisions n t s → OneStep n t s s′
     → Decisions n t s′
 decisions-step n t s s′ B E D S = go (kind n t s s′ B S)
   where

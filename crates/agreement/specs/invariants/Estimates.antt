@@ -6,8 +6,8 @@ use mathlib.Core.Logic.{_≢_, _⊎_, inl, inr}
 use mathlib.Core.Bool.{true, false}
 use Prim.Native.Nat.{ℕ, suc, _≤_, _<_}
 use native.Mathlib.Omega.{arith}
-use Rattle.sets.specs.TruthLaws.{Is, is, on, off, clash, same-on, same-refl, below-mk, eq-or}
-use Rattle.agreement.specs.view.View.{View, next, Start, Close, Open, Decide, Step, Opened}
+use Rattle.sets.specs.TruthLaws.{Is, is, on, off, clash, same-on, same-refl, less-mk, eq-or}
+use Rattle.agreement.specs.view.View.{View, next, Start, Close, Open, Decide, OneStep, Opened}
 use Rattle.agreement.specs.view.Basic.{Basic}
 use Rattle.agreement.specs.invariants.BasicKept.{basic-step}
 use Rattle.agreement.specs.view.FourKinds.{at, Quiet, Kind, quietly, starting, opening, deciding, kind}
@@ -245,7 +245,7 @@ module _ (n t : ℕ) (s s′ : View) (B : Basic n t s) (E : Estimates n t s) (B�
     cover = λ y l k h d e. absurd (omega (arith, none));
     learnt = λ l k h e f. absurd (omega (arith, none));
     outside-current = λ x d e. omega (arith, S .round, S .was, B .sync x a (S .low) (S .running));
-    outside-previous = λ x d e. clash (s′ .previous a x) (S .previous x ∙ below-mk x n d) e;
+    outside-previous = λ x d e. clash (s′ .previous a x) (S .previous x ∙ less-mk x n d) e;
   }
     where
       G : Grow n s s′ a
@@ -341,7 +341,7 @@ module _ (n t : ℕ) (s s′ : View) (B : Basic n t s) (E : Estimates n t s) (B�
       G : Grow n s s′ a
       G = decide-grow n t s s′ B a q D
 
-pub estimates-step : (n t : ℕ) (s s′ : View) → Basic n t s → Estimates n t s → Step n t s s′ → Estimates n t s′
+pub estimates-step : (n t : ℕ) (s s′ : View) → Basic n t s → Estimates n t s → OneStep n t s s′ → Estimates n t s′
 estimates-step n t s s′ B E S = go (kind n t s s′ B S)
   where
     B′ : Basic n t s′

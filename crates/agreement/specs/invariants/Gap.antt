@@ -6,7 +6,7 @@ use mathlib.Core.Bool.{true, false}
 use Prim.Native.Nat.{ℕ, zero, suc, _≤_, _<_}
 use native.Mathlib.Omega.{arith}
 use Rattle.sets.specs.TruthLaws.{Is, is, on, off, clash, off-by, le-or}
-use Rattle.sets.specs.Lists.{count}
+use Rattle.sets.specs.Lists.{countTo}
 use Rattle.agreement.specs.numbers.Pigeonhole.{Tower, ground, storey, pigeon}
 use Rattle.agreement.specs.view.View.{View}
 use Rattle.agreement.specs.view.Basic.{Basic}
@@ -65,11 +65,11 @@ module _ (n t : ℕ) (s : View) (B : Basic n t s) (E : Estimates n t s) where
         storey x (lost (suc l) x h N) (tower l y (omega arith) record { closed = c; has = e; lacked = f })
 
   pub gap : (a b r k : ℕ) → r < s .closed a → r < s .closed b → s .row a r k ≡ true → s .row b r k ≡ false
-      → r ≤ count n (s .crashed)
+      → r ≤ countTo n (s .crashed)
   gap a b zero k d d′ e f = omega arith
   gap a b (suc m) k d d′ e f = go (is (s .row a m k))
     where
-      high : (x : ℕ) → New s k m x → suc m ≤ count n (s .crashed)
+      high : (x : ℕ) → New s k m x → suc m ≤ countTo n (s .crashed)
       high x N =
           pigeon n (Lost s k) (once k) (λ l y L. closed-low n t s B y l (L .new .closed))
           (tower b (suc m) k d′ f m x (omega arith) N) (s .crashed) (λ l y w L. L .crashed)
@@ -82,6 +82,6 @@ module _ (n t : ℕ) (s : View) (B : Basic n t s) (E : Estimates n t s) where
             E .missed a b p k (omega arith) (omega arith) v (lacks b (suc m) k d′ f (suc p) (omega arith)) .1,
           ))
 
-      go : Is (s .row a m k) → suc m ≤ count n (s .crashed)
+      go : Is (s .row a m k) → suc m ≤ countTo n (s .crashed)
       go (on w) = high a record { closed = omega arith; has = w; lacked = lacked }
       go (off w) = let (y, c, g, v) = E .learnt a m k d e w in high y record { closed = c; has = g; lacked = v }

@@ -6,13 +6,14 @@ use mathlib.Core.Logic.{_≢_, _⊎_, inl, inr}
 use mathlib.Core.Bool.{true, false, not}
 use Prim.Native.Nat.{ℕ, suc, _≤_, _<_}
 use native.Mathlib.Omega.{arith}
-use Rattle.sets.specs.Truth.{_&&_, _||_, same, below}
-use Rattle.sets.specs.TruthLaws.{Is, on, off, is, clash, choose-on, choose-off, and-l, and-r, and-mk, or-mk-l, or-mk-r}
-use Rattle.sets.specs.TruthLaws.{or-none-r, off-by, same-on, same-refl, same-mk, same-off, below-mk, eq-or, le-or}
+use Rattle.sets.specs.Truth.{_and_, _or_, same, less}
+use Rattle.sets.specs.TruthLaws.{Is, on, off, is, clash, select-on, select-off, and-first, and-second, and-mk}
+use Rattle.sets.specs.TruthLaws.{or-mk-l, or-mk-r}
+use Rattle.sets.specs.TruthLaws.{or-none-r, off-by, same-on, same-refl, same-mk, same-off, less-mk, eq-or, le-or}
 use Rattle.agreement.specs.view.FourKinds.{at}
-use Rattle.agreement.specs.view.View.{View, same3, next, slot, kept, taken, Others, Calm}
+use Rattle.agreement.specs.view.View.{View, same3, next, slot, keeping, taken, Others, Calm}
 use Rattle.agreement.specs.view.View.{SameDecision, Start, Send, Arrive, Keep, Adopt, Ignore, Close}
-use Rattle.agreement.specs.view.View.{Open, Decide, Crash, Suspect, Step, starts, sends, keeps}
+use Rattle.agreement.specs.view.View.{Open, Decide, Crash, Suspect, OneStep, starts, sends, keeps}
 use Rattle.agreement.specs.view.View.{adopts, ignores, opens, decides, crashes, suspects, Opened}
 use Rattle.agreement.specs.view.Basic.{Basic}
 
@@ -85,7 +86,7 @@ data Fate (s s′ : View) (y r x : ℕ) : Type 0 where
   in-transit : s′ .transit y r x ≡ true → Fate s s′ y r x
   arrived : s′ .received x r y ≡ true → Fate s s′ y r x
   adopted : s′ .decided x ≡ true → Fate s s′ y r x
-  ignored : kept s y r x ≡ false → taken s r x ≡ false → Fate s s′ y r x
+  ignored : keeping s y r x ≡ false → taken s r x ≡ false → Fate s s′ y r x
 
 -- a step by a, as far as the wire is concerned
 record Move (n : ℕ) (s s′ : View) (a : ℕ) : Type 0 where
@@ -97,29 +98,29 @@ record Move (n : ℕ) (s s′ : View) (a : ℕ) : Type 0 where
   transit : (y r x : ℕ) → s .transit y r x ≡ true → Fate s s′ y r x
 
 -- an estimate that is due is kept
-due-kept : (n : ℕ) (s : View) (x y r : ℕ) → Due n s x y r → kept s y r x ≡ true
-unfolding kept
+due-kept : (n : ℕ) (s : View) (x y r : ℕ) → Due n s x y r → keeping s y r x ≡ true
+unfolding keeping
 due-kept n s x y r D =
-    and-mk _ _ (below-mk 0 r (D .first)) (and-mk _ _ (ap not (D .undecided)) (go (le-or r (s .round x)) (D .awaited)))
+    and-mk _ _ (less-mk 0 r (D .first)) (and-mk _ _ (ap not (D .undecided)) (go (le-or r (s .round x)) (D .awaited)))
   where
     go : (r ≤ s .round x) ⊎ (s .round x < r) → (s .round x < r) ⊎ (s .current x y ≡ true)
-        → (below (s .round x) r || (same r (s .round x) && s .current x y)) ≡ true
-    go (inr h) w = or-mk-l _ _ (below-mk _ _ h)
+        → (less (s .round x) r or (same r (s .round x) and s .current x y)) ≡ true
+    go (inr h) w = or-mk-l _ _ (less-mk _ _ h)
     go (inl h) (inl h′) = absurd (omega arith)
     go (inl h) (inr e) = or-mk-r _ _ (and-mk _ _ (same-mk _ _ (omega (arith, D .from))) e)
 
 -- a decision is taken over by a started undecided process
 taken-mk : (s : View) (x : ℕ) → s .decided x ≡ false → 1 ≤ s .round x → taken s 0 x ≡ true
 unfolding taken
-taken-mk s x e h = and-mk _ _ (same-refl 0) (and-mk _ _ (ap not e) (below-mk 0 _ h))
+taken-mk s x e h = and-mk _ _ (same-refl 0) (and-mk _ _ (ap not e) (less-mk 0 _ h))
 
 slot-off : (s : View) (y : ℕ) → s .decided y ≡ false → slot s y ≡ s .round y
 unfolding slot
-slot-off s y e = choose-off _ _ _ e
+slot-off s y e = select-off _ _ _ e
 
 slot-on : (s : View) (y : ℕ) → s .decided y ≡ true → slot s y ≡ 0
 unfolding slot
-slot-on s y e = choose-on _ _ _ e
+slot-on s y e = select-on _ _ _ e
 
 -- ---- any step keeps the wire
 
@@ -183,7 +184,7 @@ module _ (n t : ℕ) (s s′ : View) (a : ℕ) (B : Basic n t s) (W : Wire n t s
       landing D₀ (in-transit e) = inl e
       landing D₀ (arrived e) = inr (inl e)
       landing D₀ (adopted e) = clash (s′ .decided x) e (D .undecided)
-      landing D₀ (ignored e h) = clash (kept s y r x) (due-kept n s x y r D₀) e
+      landing D₀ (ignored e h) = clash (keeping s y r x) (due-kept n s x y r D₀) e
 
       -- carried over, given what becomes of a debt
       carry : Due n s x y r → (r ≡ s .round y → s .outbox y x ≡ true → Somewhere s′ x y r) → Somewhere s x y r
@@ -289,7 +290,7 @@ module _ (n t : ℕ) (s s′ : View) (B : Basic n t s) where
       owed-none = λ x. off-by _ (λ o. omega (arith, B .outbox-started a x o, S .was));
       outbox =
           λ x l ne c. S .outbox x ∙ and-mk _ _
-          (S .current x ∙ and-mk _ _ (below-mk x n l) (ap not (unsuspected a x c))) (ap not (same-off x a ne));
+          (S .current x ∙ and-mk _ _ (less-mk x n l) (ap not (unsuspected a x c))) (ap not (same-off x a ne));
     };
     transit = λ y r x e. in-transit (S .transit y r x ∙ e);
   }
@@ -324,9 +325,9 @@ module _ (n t : ℕ) (s s′ : View) (B : Basic n t s) where
     where
       go : Is (same3 y m x a r b) → Fate s s′ y m x
       go (on h) =
-          let p : y ≡ a = same-on y a (and-l _ _ h) in
-          let q : m ≡ r = same-on m r (and-l _ _ (and-r _ _ h)) in
-          let w : x ≡ b = same-on x b (and-r _ _ (and-r _ _ h)) in
+          let p : y ≡ a = same-on y a (and-first _ _ h) in
+          let q : m ≡ r = same-on m r (and-first _ _ (and-second _ _ h)) in
+          let w : x ≡ b = same-on x b (and-second _ _ (and-second _ _ h)) in
           rw (p, q, w) f
       go (off h) = in-transit (A .transit y m x ∙ and-mk _ _ e (ap not h))
 
@@ -367,7 +368,7 @@ module _ (n t : ℕ) (s s′ : View) (B : Basic n t s) where
       A = D .arrive
 
       sender : s .decided a ≡ true
-      sender = B .transit-decided a b (rw (same-on r 0 (and-l _ _ (D .taken-here))) at (A .sent))
+      sender = B .transit-decided a b (rw (same-on r 0 (and-first _ _ (D .taken-here))) at (A .sent))
 
       k : (c : ℕ) × (2 ≤ s .closed c)
       k = W .closer a sender
@@ -378,7 +379,7 @@ module _ (n t : ℕ) (s s′ : View) (B : Basic n t s) where
       by : (x : ℕ) → x < n → x ≢ b → s .crashed x ≡ false → (x ≡ a) ⊎ (x ≢ a)
           → (s′ .decided x ≡ true) ⊎ (s′ .outbox b x ≡ true)
       by x l ne c (inl e) = inl (A .others .decided x ne ∙ ap (s .decided) e ∙ sender)
-      by x l ne c (inr na) = inr (D .outbox x ∙ and-mk _ _ (below-mk x n l)
+      by x l ne c (inr na) = inr (D .outbox x ∙ and-mk _ _ (less-mk x n l)
           (and-mk _ _ (ap not (same-off x b ne)) (and-mk _ _ (ap not (unsuspected b x c)) (ap not (same-off x a na)))))
 
   close-move : (a q : ℕ) → Close n s s′ a q → Progress n s s′ a → Move n s s′ a
@@ -425,7 +426,7 @@ module _ (n t : ℕ) (s s′ : View) (B : Basic n t s) where
     closer = (a, omega (arith, C .closed, C .is-at, B .closed-lo a));
     outbox =
         λ x l ne c. inr (D .outbox x
-        ∙ and-mk _ _ (below-mk x n l) (and-mk _ _ (ap not (same-off x a ne)) (ap not (unsuspected a x c))));
+        ∙ and-mk _ _ (less-mk x n l) (and-mk _ _ (ap not (same-off x a ne)) (ap not (unsuspected a x c))));
   })
     where
       C : Close n s s′ a q
@@ -451,7 +452,7 @@ module _ (n t : ℕ) (s s′ : View) (B : Basic n t s) where
     transit = λ y r x e. in-transit (S .transit y r x ∙ e);
   }
 
-pub wire-step : (n t : ℕ) (s s′ : View) → Basic n t s → Wire n t s → Basic n t s′ → Step n t s s′ → Wire n t s′
+pub wire-step : (n t : ℕ) (s s′ : View) → Basic n t s → Wire n t s → Basic n t s′ → OneStep n t s s′ → Wire n t s′
 wire-step n t s s′ B W B′ (starts {a} {v} S) = wire-move n t s s′ a B W B′ (start-move n t s s′ B a v S)
 wire-step n t s s′ B W B′ (sends {a} {b} S) = wire-move n t s s′ a B W B′ (send-move n t s s′ B a b S)
 wire-step n t s s′ B W B′ (keeps {a} {r} {b} K) = wire-move n t s s′ b B W B′ (keep-move n t s s′ B a r b K)

@@ -5,8 +5,8 @@ use mathlib.Core.Logic.{_≢_, _⊎_, inl, inr}
 use mathlib.Core.Bool.{Bool, true, false, not}
 use Prim.Native.Nat.{ℕ, zero, suc, _≤_, _<_}
 use native.Mathlib.Omega.{arith}
-use Rattle.sets.specs.Truth.{_&&_}
-use Rattle.sets.specs.TruthLaws.{Is, on, off, is, clash, and-l, and-r, and-mk, off-by, not-on, eq-or, le-or}
+use Rattle.sets.specs.Truth.{_and_}
+use Rattle.sets.specs.TruthLaws.{Is, on, off, is, clash, and-first, and-second, and-mk, off-by, not-on, eq-or, le-or}
 use Rattle.agreement.specs.view.FourKinds.{at}
 use Rattle.agreement.specs.view.View.{View}
 use Rattle.agreement.specs.view.Basic.{Basic}
@@ -85,7 +85,7 @@ module _ (n t : ℕ) (s : View) (B : Basic n t s) (W : Wire n t s) (S : Still n 
 
   -- running and undecided
   waiting : ℕ → Bool
-  waiting x = not (s .crashed x) && not (s .decided x)
+  waiting x = not (s .crashed x) and not (s .decided x)
 
   -- the one with the least round has heard its whole current set (W2)
   module _ (x : ℕ) (l : x < n) (c : s .crashed x ≡ false) (d : s .decided x ≡ false)
@@ -135,7 +135,7 @@ module _ (n t : ℕ) (s : View) (B : Basic n t s) (W : Wire n t s) (S : Still n 
 
   quiet-none : Least n waiting (s .round) → ⊥
   unfolding waiting
-  quiet-none L = stuck (L .at) (L .low) (not-on _ (and-l _ _ (L .passes))) (not-on _ (and-r _ _ (L .passes)))
+  quiet-none L = stuck (L .at) (L .low) (not-on _ (and-first _ _ (L .passes))) (not-on _ (and-second _ _ (L .passes)))
       (λ z h c d. L .least z h (and-mk _ _ (ap not c) (ap not d)))
 
   quiet-go : (x : ℕ) → x < n → s .crashed x ≡ false → Is (s .decided x) → s .decided x ≡ true

@@ -8,16 +8,16 @@ use Prim.Native.Nat.{ℕ, zero, suc, _+_, _*_, _-_, _≤_, _<_}
 use native.Mathlib.Numerals.{add-two}
 use native.Mathlib.Nat.{mul-add, add-mul, mul-comm, mul-assoc, mul-left-comm, mul-le-mul-left, sub-add-cancel}
 use native.Mathlib.Omega.{arith}
-use Rattle.sets.specs.Truth.{_&&_, _||_, same, below, choose, bit}
-use Rattle.sets.specs.TruthLaws.{Is, is, on, off, clash, off-by, choose-on, choose-off, and-l}
-use Rattle.sets.specs.TruthLaws.{and-r, and-mk, and-off-r, or-cases, or-mk-l, or-mk-r, not-on}
-use Rattle.sets.specs.TruthLaws.{same-on, same-refl, same-mk, same-off, below-on, below-mk, eq-or}
-use Rattle.sets.specs.Lists.{count, sumTo}
+use Rattle.sets.specs.Truth.{_and_, _or_, same, less, select, bit}
+use Rattle.sets.specs.TruthLaws.{Is, is, on, off, clash, off-by, select-on, select-off, and-first}
+use Rattle.sets.specs.TruthLaws.{and-second, and-mk, and-off-r, or-cases, or-mk-l, or-mk-r, not-on}
+use Rattle.sets.specs.TruthLaws.{same-on, same-refl, same-mk, same-off, less-on, less-mk, eq-or}
+use Rattle.sets.specs.Lists.{countTo, sumTo}
 use Rattle.agreement.specs.view.View.{View, same3, slot, taken, Others, Calm, SameDecision, Start}
-use Rattle.agreement.specs.view.View.{Send, Arrive, Adopt, Close, Step, starts, sends, keeps}
+use Rattle.agreement.specs.view.View.{Send, Arrive, Adopt, Close, OneStep, starts, sends, keeps}
 use Rattle.agreement.specs.view.View.{adopts, ignores, opens, decides, crashes, suspects, Opened}
 use Rattle.agreement.specs.view.Basic.{Basic}
-use Rattle.sets.specs.SumLaws.{sum-le, sum-lt, sum-surplus, sum-same, sum-bound, sum-add, count-sum}
+use Rattle.sets.specs.SumLaws.{sum-le, sum-lt, sum-surplus, sum-same, sum-bound, sum-both, count-sum}
 use Rattle.sets.specs.CountLaws.{bit-le, bit-mono, count-mono, count-more}
 
 -- how far process a is
@@ -26,29 +26,29 @@ rank s a = s .round a + bit (s .decided a)
 
 -- a may still send its message r (0: its decision) to b: it has not come to it yet, or it still owes it
 unfoldable pub may : View → ℕ → ℕ → ℕ → Bool
-may s a zero b = not (s .decided a) || s .outbox a b
-may s a (suc q) b = not (s .decided a) && (below (s .round a) (suc q) || (same (s .round a) (suc q) && s .outbox a b))
+may s a zero b = not (s .decided a) or s .outbox a b
+may s a (suc q) b = not (s .decided a) and (less (s .round a) (suc q) or (same (s .round a) (suc q) and s .outbox a b))
 
 -- how far a message is, given whether it is in transit and whether it may still be sent
-unfoldable pub level : Bool → Bool → ℕ
-level p m = choose p 1 (choose m 0 2)
+unfoldable pub stageBy : Bool → Bool → ℕ
+stageBy p m = select p 1 (select m 0 2)
 
 unfoldable pub stage : View → ℕ → ℕ → ℕ → ℕ
-stage s a r b = level (s .transit a r b) (may s a r b)
+stage s a r b = stageBy (s .transit a r b) (may s a r b)
 
 -- the stages of all messages from a to b
 unfoldable pub pair : ℕ → View → ℕ → ℕ → ℕ
-pair t s a b = choose (same b a) 0 (sumTo (suc (suc t)) (λ r. stage s a r b))
+pair t s a b = select (same b a) 0 (sumTo (suc (suc t)) (λ r. stage s a r b))
 
 unfoldable pub messages : ℕ → ℕ → View → ℕ
 messages n t s = sumTo n (λ a. sumTo n (pair t s a))
 
 unfoldable pub suspicions : ℕ → View → ℕ
-suspicions n s = sumTo n (λ a. count n (s .suspected a))
+suspicions n s = sumTo n (λ a. countTo n (s .suspected a))
 
 -- the measure
 unfoldable pub work : ℕ → ℕ → View → ℕ
-work n t s = sumTo n (rank s) + (count n (s .crashed) + (suspicions n s + messages n t s))
+work n t s = sumTo n (rank s) + (countTo n (s .crashed) + (suspicions n s + messages n t s))
 
 -- a message in transit may not be sent again
 pub record Once (n t : ℕ) (s : View) : Type 0 where
@@ -76,20 +76,20 @@ module _ (s : View) (a b : ℕ) where
 
   may-suc : (q : ℕ) → may s a (suc q) b ≡ true → Unsent (suc q)
   unfolding may
-  may-suc q e = (not-on _ (and-l _ _ e), go (or-cases _ _ (and-r _ _ e)))
+  may-suc q e = (not-on _ (and-first _ _ e), go (or-cases _ _ (and-second _ _ e)))
     where
-      go : (below (s .round a) (suc q) ≡ true) ⊎ ((same (s .round a) (suc q) && s .outbox a b) ≡ true)
+      go : (less (s .round a) (suc q) ≡ true) ⊎ ((same (s .round a) (suc q) and s .outbox a b) ≡ true)
           → (s .round a < suc q) ⊎ ((s .round a ≡ suc q) × (s .outbox a b ≡ true))
-      go (inl h) = inl (below-on _ _ h)
-      go (inr h) = inr (same-on _ _ (and-l _ _ h), and-r _ _ h)
+      go (inl h) = inl (less-on _ _ h)
+      go (inr h) = inr (same-on _ _ (and-first _ _ h), and-second _ _ h)
 
   may-suc-mk : (q : ℕ) → Unsent (suc q) → may s a (suc q) b ≡ true
   unfolding may
   may-suc-mk q h = and-mk _ _ (ap not (h .0)) (go (h .1))
     where
       go : (s .round a < suc q) ⊎ ((s .round a ≡ suc q) × (s .outbox a b ≡ true))
-          → (below (s .round a) (suc q) || (same (s .round a) (suc q) && s .outbox a b)) ≡ true
-      go (inl h) = or-mk-l _ _ (below-mk _ _ h)
+          → (less (s .round a) (suc q) or (same (s .round a) (suc q) and s .outbox a b)) ≡ true
+      go (inl h) = or-mk-l _ _ (less-mk _ _ h)
       go (inr h) = or-mk-r _ _ (and-mk _ _ (same-mk _ _ (h .0)) (h .1))
 
 -- ---- what a record does to one process: it rests, and may pay what it owes, or it goes on to
@@ -221,7 +221,7 @@ module _ (n t : ℕ) (s s′ : View) where
 
   -- so it is of the message that a sends: a decision of a decided process, an estimate of another, which has started
   owed-slot : {a b : ℕ} → Basic n t s → Send n s s′ a b → Owed a (slot s a) b
-  unfolding slot choose Owed
+  unfolding slot select Owed
   owed-slot {a} {b} B S = go (is (s .decided a))
     where
       paid : s′ .outbox a b ≡ true → ⊥
@@ -253,7 +253,7 @@ module _ (n t : ℕ) (s s′ : View) where
   advance-send : {a b : ℕ} → Basic n t s → Send n s s′ a b → Advance n t s s′
   unfolding Owed same3
   advance-send {a} {b} B S = advance-by (S .others)
-      (rests (S .decision .decided) (S .calm .round) (λ y h. and-l _ _ (sym (S .outbox y) ∙ h)))
+      (rests (S .decision .decided) (S .calm .round) (λ y h. and-first _ _ (sym (S .outbox y) ∙ h)))
       (λ x h. S .crashed x ∙ h) (λ y h. S .suspected y ∙ h)
       (λ x r y h. sent x r y (or-cases _ _ (sym (S .transit x r y) ∙ h)))
       (by-sending (S .low) (S .low-b) (λ e. S .apart (sym e)) (now .0) (now .1)
@@ -264,9 +264,9 @@ module _ (n t : ℕ) (s s′ : View) where
 
       sent : (x r y : ℕ) → (same3 x r y a (slot s a) b ≡ true) ⊎ (s .transit x r y ≡ true) → Sent s s′ x r y
       sent x r y (inl h) = inr (rw (
-        same-on x a (and-l _ _ h),
-        same-on r (slot s a) (and-l _ _ (and-r _ _ h)),
-        same-on y b (and-r _ _ (and-r _ _ h)),
+        same-on x a (and-first _ _ h),
+        same-on r (slot s a) (and-first _ _ (and-second _ _ h)),
+        same-on y b (and-second _ _ (and-second _ _ h)),
       ) (now .1, now .2))
       sent x r y (inr h) = inl h
 
@@ -274,7 +274,7 @@ module _ (n t : ℕ) (s s′ : View) where
   advance-arrive : {a r b : ℕ} → Arrive n t s s′ a r b → Turn s s′ b → Advance n t s s′
   advance-arrive {a} {r} {b} A T =
       advance-by (A .others) T (λ x h. A .crashed x ∙ h) (λ y h. A .suspected y ∙ h)
-      (λ x m y h. inl (and-l _ _ (sym (A .transit x m y) ∙ h)))
+      (λ x m y h. inl (and-first _ _ (sym (A .transit x m y) ∙ h)))
       (by-arrival (A .low) (A .low-b) (λ e. A .apart (sym e)) (A .bound) (A .sent)
       (A .transit a r b ∙ and-off-r _ _ (ap not (same3-refl a r b))))
 
@@ -285,9 +285,9 @@ module _ (n t : ℕ) (s s′ : View) where
       (moves undecided (omega (arith, S .arrive .calm .round, ap bit undecided, ap bit (S .decided))))
     where
       undecided : s .decided b ≡ false
-      undecided = not-on _ (and-l _ _ (and-r _ _ (S .taken-here)))
+      undecided = not-on _ (and-first _ _ (and-second _ _ (S .taken-here)))
 
-  advance : Basic n t s → Step n t s s′ → Advance n t s s′
+  advance : Basic n t s → OneStep n t s s′ → Advance n t s s′
   unfolding bit
   advance B (starts S) = advance-start B S
   advance B (sends S) = advance-send B S
@@ -310,7 +310,7 @@ module _ (n t : ℕ) (s s′ : View) where
 pub once-opened : {n t : ℕ} {s : View} → Opened s → Once n t s
 once-opened {s} O = record { over = λ a r b h. clash (s .transit a r b) h (O .transit a r b) }
 
-pub once-step : {n t : ℕ} {s s′ : View} → Basic n t s → Once n t s → Step n t s s′ → Once n t s′
+pub once-step : {n t : ℕ} {s s′ : View} → Basic n t s → Once n t s → OneStep n t s s′ → Once n t s′
 once-step {n} {t} {s} {s′} B I S = record { over = λ a r b h. go a r b (A .sent a r b h) }
   where
     A : Advance n t s s′
@@ -322,16 +322,16 @@ once-step {n} {t} {s} {s′} B I S = record { over = λ a r b h. go a r b (A .se
 
 -- ---- every accepted record raises the measure
 
-level-le : (p m : Bool) → level p m ≤ 2
-unfolding level choose
+level-le : (p m : Bool) → stageBy p m ≤ 2
+unfolding stageBy select
 level-le true m = omega arith
 level-le false true = omega arith
 level-le false false = omega arith
 
 -- a message's stage never falls, and it rises where the message comes into transit or leaves it
 level-up : (p m p′ m′ : Bool) → (p ≡ true → m ≡ false) → (m′ ≡ true → m ≡ true) → (p′ ≡ true → (p ≡ true) ⊎ (m ≡ true))
-    → (level p m ≤ level p′ m′) × (p ≢ p′ → level p m < level p′ m′)
-unfolding level choose
+    → (stageBy p m ≤ stageBy p′ m′) × (p ≢ p′ → stageBy p m < stageBy p′ m′)
+unfolding stageBy select
 level-up true m true m′ once spent sent = (omega arith, λ ne. absurd (ne refl))
 level-up true m false true once spent sent = clash m (spent refl) (once refl)
 level-up true m false false once spent sent = (omega arith, λ ne. omega arith)
@@ -347,7 +347,7 @@ level-up false false false false once spent sent = (omega arith, λ ne. absurd (
 
 pair-there : (t : ℕ) (s : View) (a b : ℕ) → b ≢ a → pair t s a b ≡ sumTo (suc (suc t)) (λ r. stage s a r b)
 unfolding pair
-pair-there t s a b ne = choose-off _ _ _ (same-off b a ne)
+pair-there t s a b ne = select-off _ _ _ (same-off b a ne)
 
 module _ (n t : ℕ) (s s′ : View) (I : Once n t s) (A : Advance n t s s′) where
   stage-up : (a r b : ℕ)
@@ -360,11 +360,11 @@ module _ (n t : ℕ) (s s′ : View) (I : Once n t s) (A : Advance n t s s′) w
       go (inr h) = inr (h .0)
 
   pair-le : (a b : ℕ) → pair t s a b ≤ pair t s′ a b
-  unfolding pair choose
+  unfolding pair select
   pair-le a b =
       go (same b a) (sum-le (suc (suc t)) (λ r. stage s a r b) (λ r. stage s′ a r b) (λ r l. stage-up a r b .0))
     where
-      go : {x y : ℕ} (c : Bool) → x ≤ y → choose c 0 x ≤ choose c 0 y
+      go : {x y : ℕ} (c : Bool) → x ≤ y → select c 0 x ≤ select c 0 y
       go true h = omega arith
       go false h = h
 
@@ -396,23 +396,23 @@ module _ (n t : ℕ) (s s′ : View) (I : Once n t s) (A : Advance n t s s′) w
   ranks-le : sumTo n (rank s) ≤ sumTo n (rank s′)
   ranks-le = sum-le n (rank s) (rank s′) (λ x l. turn-rank (A .turn x))
 
-  crashed-le : count n (s .crashed) ≤ count n (s′ .crashed)
+  crashed-le : countTo n (s .crashed) ≤ countTo n (s′ .crashed)
   crashed-le = count-mono n (s .crashed) (s′ .crashed) (λ x d. A .crashed x)
 
-  suspected-le : (a : ℕ) → count n (s .suspected a) ≤ count n (s′ .suspected a)
+  suspected-le : (a : ℕ) → countTo n (s .suspected a) ≤ countTo n (s′ .suspected a)
   suspected-le a = count-mono n (s .suspected a) (s′ .suspected a) (λ x d. A .suspected a x)
 
   suspicions-le : suspicions n s ≤ suspicions n s′
   unfolding suspicions
-  suspicions-le = sum-le n (λ a. count n (s .suspected a)) (λ a. count n (s′ .suspected a)) (λ a l. suspected-le a)
+  suspicions-le = sum-le n (λ a. countTo n (s .suspected a)) (λ a. countTo n (s′ .suspected a)) (λ a l. suspected-le a)
 
   suspicions-lt : (a b : ℕ) → a < n → b < n → s .suspected a b ≡ false → s′ .suspected a b ≡ true
       → suc (suspicions n s) ≤ suspicions n s′
   unfolding suspicions
   suspicions-lt a b p q e e′ =
-      sum-lt n a (λ a. count n (s .suspected a)) (λ a. count n (s′ .suspected a)) p here (λ x l. suspected-le x)
+      sum-lt n a (λ a. countTo n (s .suspected a)) (λ a. countTo n (s′ .suspected a)) p here (λ x l. suspected-le x)
     where
-      here : count n (s .suspected a) < count n (s′ .suspected a)
+      here : countTo n (s .suspected a) < countTo n (s′ .suspected a)
       here = count-more n (s .suspected a) (s′ .suspected a) b (λ x d. A .suspected a x) q e e′
 
   -- no part falls, and one rises
@@ -448,7 +448,7 @@ module _ (n t : ℕ) (s s′ : View) (I : Once n t s) (A : Advance n t s s′) w
       )
 
 -- every accepted record raises the measure
-pub work-step : {n t : ℕ} {s s′ : View} → Basic n t s → Once n t s → Step n t s s′ → suc (work n t s) ≤ work n t s′
+pub work-step : {n t : ℕ} {s s′ : View} → Basic n t s → Once n t s → OneStep n t s s′ → suc (work n t s) ≤ work n t s′
 work-step {n} {t} {s} {s′} B I S = let A = advance n t s s′ B S in work-up n t s s′ I A (A .rise)
 
 -- ---- it begins at 0 and has a bound
@@ -463,7 +463,7 @@ messages-bound n t c s h = sum-bound n ((n - 1) * K) (λ a. sumTo n (pair t s a)
     K = suc (suc t) * c
 
     here : (a : ℕ) → pair t s a a ≡ 0
-    here a = choose-on _ _ _ (same-refl a)
+    here a = select-on _ _ _ (same-refl a)
 
     there : (a b : ℕ) → b ≢ a → pair t s a b ≤ K
     there a b ne =
@@ -480,19 +480,19 @@ messages-bound n t c s h = sum-bound n ((n - 1) * K) (λ a. sumTo n (pair t s a)
 
 -- those that a suspects have crashed, and a is not among them: so with the crashes there are at most n for each crash
 suspicions-bound : {n t : ℕ} {s : View} → Basic n t s
-    → suspicions n s + count n (s .crashed) ≤ n * count n (s .crashed)
+    → suspicions n s + countTo n (s .crashed) ≤ n * countTo n (s .crashed)
 unfolding suspicions bit
 suspicions-bound {n} {t} {s} B = omega (
   arith,
-  sum-add n (λ a. count n (s .suspected a)) (λ a. bit (s .crashed a)),
+  sum-both n (λ a. countTo n (s .suspected a)) (λ a. bit (s .crashed a)),
   count-sum n (s .crashed),
-  sum-bound n (count n (s .crashed)) (λ a. count n (s .suspected a) + bit (s .crashed a)) by,
+  sum-bound n (countTo n (s .crashed)) (λ a. countTo n (s .suspected a) + bit (s .crashed a)) by,
 )
   where
     none : (a : ℕ) → s .suspected a a ≡ false
     none a = off-by _ (λ h. B .suspected-other a a h refl)
 
-    by : (a : ℕ) → a < n → count n (s .suspected a) + bit (s .crashed a) ≤ count n (s .crashed)
+    by : (a : ℕ) → a < n → countTo n (s .suspected a) + bit (s .crashed a) ≤ countTo n (s .crashed)
     by a l = omega (
       arith,
       count-sum n (s .suspected a),

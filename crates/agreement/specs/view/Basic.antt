@@ -3,7 +3,7 @@ use mathlib.Core.Path.{_≡_}
 use mathlib.Core.Logic.{_≢_}
 use mathlib.Core.Bool.{true, false}
 use Prim.Native.Nat.{ℕ, suc, _≤_, _<_}
-use Rattle.sets.specs.Lists.{count}
+use Rattle.sets.specs.Lists.{countTo}
 use Rattle.agreement.specs.view.View.{View}
 
 pub record Basic (n t : ℕ) (s : View) : Type 0 where
@@ -40,6 +40,6 @@ pub record Basic (n t : ℕ) (s : View) : Type 0 where
   pub self : (a : ℕ) → 1 ≤ s .round a → s .current a a ≡ true
   pub outside : (a x : ℕ) → x < n → 1 ≤ s .round a → s .current a x ≡ false → s .suspected a x ≡ true
   pub nested : (a x : ℕ) → 1 ≤ s .round a → s .current a x ≡ true → s .previous a x ≡ true
-  pub few : count n (s .crashed) ≤ t
+  pub few : countTo n (s .crashed) ≤ t
   -- synchrony (R1): nobody is more than a round ahead of a running process
   pub sync : (a b : ℕ) → b < n → s .crashed b ≡ false → s .closed a ≤ suc (s .round b)

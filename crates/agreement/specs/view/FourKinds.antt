@@ -4,13 +4,13 @@ use mathlib.Core.Logic.{_≢_, _⊎_, inl, inr}
 use mathlib.Core.Bool.{true, false, not}
 use Prim.Native.Nat.{ℕ, _≤_, _<_}
 use native.Mathlib.Omega.{arith}
-use Rattle.sets.specs.Truth.{_&&_, same, below}
-use Rattle.sets.specs.TruthLaws.{Is, is, on, off, clash, choose-on, choose-off, and-l, and-r, or-cases}
-use Rattle.sets.specs.TruthLaws.{or-mk-r, or-off-l, not-on, same-on, same-refl, same-off, below-on, eq-or}
-use Rattle.sets.specs.Lists.{count}
-use Rattle.sets.specs.CountLaws.{count-cong, count-add}
-use Rattle.agreement.specs.view.View.{View, same3, slot, kept, taken, Others, Calm, SameDecision, Start}
-use Rattle.agreement.specs.view.View.{Send, Arrive, Keep, Adopt, Ignore, Open, Decide, Crash, Suspect, Step}
+use Rattle.sets.specs.Truth.{_and_, same, less}
+use Rattle.sets.specs.TruthLaws.{Is, is, on, off, clash, select-on, select-off, and-first, and-second, or-cases}
+use Rattle.sets.specs.TruthLaws.{or-mk-r, or-off-l, not-on, same-on, same-refl, same-off, less-on, eq-or}
+use Rattle.sets.specs.Lists.{countTo}
+use Rattle.sets.specs.CountLaws.{count-cong, count-one}
+use Rattle.agreement.specs.view.View.{View, same3, slot, keeping, taken, Others, Calm, SameDecision, Start}
+use Rattle.agreement.specs.view.View.{Send, Arrive, Keep, Adopt, Ignore, Open, Decide, Crash, Suspect, OneStep}
 use Rattle.agreement.specs.view.View.{starts, sends, keeps, adopts, ignores, opens, decides, crashes, suspects}
 use Rattle.agreement.specs.view.Basic.{Basic}
 
@@ -51,7 +51,7 @@ pub record Adopted (s s′ : View) (x : ℕ) : Type 0 where
 pub record Crashes (n t : ℕ) (s s′ : View) : Type 0 where
   pub up : (x : ℕ) → s .crashed x ≡ true → s′ .crashed x ≡ true
   pub low : (x : ℕ) → s′ .crashed x ≡ true → (s .crashed x ≡ true) ⊎ (x < n)
-  pub few : count n (s .crashed) ≤ t → count n (s′ .crashed) ≤ t
+  pub few : countTo n (s .crashed) ≤ t → countTo n (s′ .crashed) ≤ t
 
 pub same-crashes : (n t : ℕ) (s s′ : View) → ((x : ℕ) → s′ .crashed x ≡ s .crashed x) → Crashes n t s s′
 same-crashes n t s s′ h = record {
@@ -112,8 +112,8 @@ still-moved n s s′ h x r y e = inl (sym (h x r y) ∙ e)
 same3-on : (x y z a b c : ℕ) → same3 x y z a b c ≡ true → (x ≡ a) × (y ≡ b) × (z ≡ c)
 unfolding same3
 same3-on x y z a b c e =
-    let w = and-r (same x a) _ e in
-    (same-on x a (and-l _ _ e), same-on y b (and-l _ _ w), same-on z c (and-r (same y b) _ w))
+    let w = and-second (same x a) _ e in
+    (same-on x a (and-first _ _ e), same-on y b (and-first _ _ w), same-on z c (and-second (same y b) _ w))
 
 module _ (n t : ℕ) (s s′ : View) (B : Basic n t s) where
   -- what a has to send is no message of a later round, and a decision only where it decided
@@ -122,9 +122,9 @@ module _ (n t : ℕ) (s s′ : View) (B : Basic n t s) where
   slot-is a h = go (is (s .decided a))
     where
       go : Is (s .decided a) → (slot s a ≤ s .round a) × (slot s a ≡ 0 → s .decided a ≡ true)
-      go (on e) = (omega (arith, choose-on (s .decided a) 0 (s .round a) e), λ w. e)
+      go (on e) = (omega (arith, select-on (s .decided a) 0 (s .round a) e), λ w. e)
       go (off e) =
-          let z = choose-off (s .decided a) 0 (s .round a) e in
+          let z = select-off (s .decided a) 0 (s .round a) e in
           (omega (arith, z), λ w. absurd (omega (arith, z)))
 
   send-quiet : (a b : ℕ) → Send n s s′ a b → Quiet n t s s′
@@ -134,7 +134,7 @@ module _ (n t : ℕ) (s s′ : View) (B : Basic n t s) where
     where
       hold : Holds n s s′ a
       hold =
-          holds-by n s s′ a (λ y e. inl (and-l _ _ (sym (S .outbox y) ∙ e)))
+          holds-by n s s′ a (λ y e. inl (and-first _ _ (sym (S .outbox y) ∙ e)))
           (λ r y e. inl (sym (S .received r y) ∙ e)) (S .suspected)
 
       moved : Moved n s s′
@@ -159,7 +159,7 @@ module _ (n t : ℕ) (s s′ : View) (B : Basic n t s) where
   module _ (a r b : ℕ) (A : Arrive n t s s′ a r b) where
     arrive-moved : Moved n s s′
     unfolding Moved
-    arrive-moved x m y e = inl (and-l _ _ (sym (A .transit x m y) ∙ e))
+    arrive-moved x m y e = inl (and-first _ _ (sym (A .transit x m y) ∙ e))
 
     arrive-quiet : SameDecision s s′ b ⊎ Adopted s s′ b
         → ((y : ℕ) → s′ .outbox b y ≡ true → (s .outbox b y ≡ true) ⊎ ((y < n) × (y ≢ b) × (1 ≤ s .round b)))
@@ -182,18 +182,18 @@ module _ (n t : ℕ) (s s′ : View) (B : Basic n t s) where
         hold = holds-by n s s′ b out (λ m y e. heard m y (new m y e)) (A .suspected)
 
   keep-quiet : (a r b : ℕ) → Keep n t s s′ a r b → Quiet n t s s′
-  unfolding kept
+  unfolding keeping
   keep-quiet a r b K = arrive-quiet a r b (K .arrive) (inl (K .decision)) (λ y e. inl (sym (K .outbox y) ∙ e)) new
     where
       new : (m y : ℕ) → s′ .received b m y ≡ true → (s .received b m y ≡ true) ⊎ ((m ≡ r) × (y ≡ a) × (1 ≤ r))
-      new m y e = go (or-cases (same m r && same y a) _ (sym (K .received m y) ∙ e))
+      new m y e = go (or-cases (same m r and same y a) _ (sym (K .received m y) ∙ e))
         where
-          go : ((same m r && same y a) ≡ true) ⊎ (s .received b m y ≡ true)
+          go : ((same m r and same y a) ≡ true) ⊎ (s .received b m y ≡ true)
               → (s .received b m y ≡ true) ⊎ ((m ≡ r) × (y ≡ a) × (1 ≤ r))
           go (inl h) = inr (
-            same-on m r (and-l _ _ h),
-            same-on y a (and-r (same m r) _ h),
-            below-on 0 r (and-l _ _ (K .kept-here)),
+            same-on m r (and-first _ _ h),
+            same-on y a (and-second (same m r) _ h),
+            less-on 0 r (and-first _ _ (K .kept-here)),
           )
           go (inr h) = inl h
 
@@ -207,17 +207,17 @@ module _ (n t : ℕ) (s s′ : View) (B : Basic n t s) where
   adopt-quiet a r b D = arrive-quiet a r b (D .arrive) (inr adopted) out (λ m y e. inl (sym (D .received m y) ∙ e))
     where
       began : 1 ≤ s .round b
-      began = below-on 0 (s .round b) (and-r (not (s .decided b)) _ (and-r (same r 0) _ (D .taken-here)))
+      began = less-on 0 (s .round b) (and-second (not (s .decided b)) _ (and-second (same r 0) _ (D .taken-here)))
 
       adopted : Adopted s s′ b
       adopted = record {
         started = began;
-        undecided = not-on _ (and-l _ _ (and-r (same r 0) _ (D .taken-here)));
+        undecided = not-on _ (and-first _ _ (and-second (same r 0) _ (D .taken-here)));
         decided = D .decided;
         whose = a;
         theirs =
             B .transit-decided a b
-            (ap (λ m. s .transit a m b) (sym (same-on r 0 (and-l _ _ (D .taken-here)))) ∙ D .arrive .sent);
+            (ap (λ m. s .transit a m b) (sym (same-on r 0 (and-first _ _ (D .taken-here)))) ∙ D .arrive .sent);
         estimate = D .estimate;
         value = D .value;
       }
@@ -226,8 +226,8 @@ module _ (n t : ℕ) (s s′ : View) (B : Basic n t s) where
       out y e =
           let h = sym (D .outbox y) ∙ e in
           inr (
-            below-on y n (and-l _ _ h),
-            λ f. clash (same y b) (rw f (same-refl b)) (not-on _ (and-l _ _ (and-r (below y n) _ h))),
+            less-on y n (and-first _ _ h),
+            λ f. clash (same y b) (rw f (same-refl b)) (not-on _ (and-first _ _ (and-second (less y n) _ h))),
             began,
           )
 
@@ -251,7 +251,7 @@ module _ (n t : ℕ) (s s′ : View) (B : Basic n t s) where
         few = λ w. omega (
           arith,
           C .few,
-          count-add n (s .crashed) (s′ .crashed) a (λ x ne. C .crashed x ∙ or-off-l _ _ (same-off x a ne)),
+          count-one n (s .crashed) (s′ .crashed) a (λ x ne. C .crashed x ∙ or-off-l _ _ (same-off x a ne)),
         );
       }
 
@@ -280,7 +280,7 @@ pub data Kind (n t : ℕ) (s s′ : View) : Type 0 where
   opening : {a q : ℕ} → Open n t s s′ a q → Kind n t s s′
   deciding : {a q : ℕ} → Decide n t s s′ a q → Kind n t s s′
 
-pub kind : (n t : ℕ) (s s′ : View) → Basic n t s → Step n t s s′ → Kind n t s s′
+pub kind : (n t : ℕ) (s s′ : View) → Basic n t s → OneStep n t s s′ → Kind n t s s′
 kind n t s s′ B (starts S) = starting S
 kind n t s s′ B (sends {a} {b} S) = quietly (send-quiet n t s s′ B a b S)
 kind n t s s′ B (keeps {a} {r} {b} K) = quietly (keep-quiet n t s s′ B a r b K)

@@ -5,13 +5,13 @@ use mathlib.Core.Bool.{true}
 use Prim.Native.Nat.{ℕ, _≤_}
 use native.Mathlib.Omega.{arith}
 use Rattle.sets.specs.TruthLaws.{clash}
-use Rattle.agreement.specs.view.View.{View, SameDecision, Step}
+use Rattle.agreement.specs.view.View.{View, SameDecision, OneStep}
 use Rattle.agreement.specs.view.Basic.{Basic}
 use Rattle.agreement.specs.view.FourKinds.{others-decision, Adopted, Quiet, Kind}
 use Rattle.agreement.specs.view.FourKinds.{quietly, starting, opening, deciding, kind}
 use Rattle.agreement.specs.view.NewEstimate.{Grow, start-grow, open-grow, decide-grow, round-up}
 
-module _ (n t : ℕ) (s s′ : View) (B : Basic n t s) (S : Step n t s s′) where
+module _ (n t : ℕ) (s s′ : View) (B : Basic n t s) (S : OneStep n t s s′) where
   -- a step is quiet, or a start or a close
   quiet-or-grow : Quiet n t s s′ ⊎ ((a : ℕ) × Grow n s s′ a)
   quiet-or-grow = go (kind n t s s′ B S)

@@ -5,8 +5,8 @@ use mathlib.Core.Logic.{_≢_, _⊎_, inl, inr}
 use mathlib.Core.Bool.{true, false}
 use Prim.Native.Nat.{ℕ, suc, _≤_, _<_}
 use native.Mathlib.Omega.{arith}
-use Rattle.sets.specs.Truth.{_||_, same}
-use Rattle.sets.specs.TruthLaws.{Is, is, on, off, clash, off-by, and-l, and-r, and-mk}
+use Rattle.sets.specs.Truth.{_or_, same}
+use Rattle.sets.specs.TruthLaws.{Is, is, on, off, clash, off-by, and-first, and-second, and-mk}
 use Rattle.sets.specs.TruthLaws.{or-cases, or-mk-l, or-mk-r, same-on, same-mk, eq-or, le-or}
 use Rattle.agreement.specs.view.View.{View, next, Others, Start, Close, Open, Decide}
 use Rattle.agreement.specs.view.Basic.{Basic}
@@ -18,17 +18,17 @@ pub next-mk : (s : View) (a y : ℕ) → s .current a y ≡ true → (y ≡ a) �
 unfolding next
 next-mk s a y e h = and-mk (s .current a y) _ e (go h)
   where
-    go : (y ≡ a) ⊎ (s .received a (s .round a) y ≡ true) → (same y a || s .received a (s .round a) y) ≡ true
+    go : (y ≡ a) ⊎ (s .received a (s .round a) y ≡ true) → (same y a or s .received a (s .round a) y) ≡ true
     go (inl w) = or-mk-l (same y a) _ (same-mk y a w)
     go (inr w) = or-mk-r (same y a) _ w
 
 pub next-current : (s : View) (a y : ℕ) → next s a y ≡ true → s .current a y ≡ true
 unfolding next
-next-current s a y e = and-l _ _ e
+next-current s a y e = and-first _ _ e
 
 pub next-cases : (s : View) (a y : ℕ) → next s a y ≡ true → (y ≡ a) ⊎ (s .received a (s .round a) y ≡ true)
 unfolding next
-next-cases s a y e = go (or-cases (same y a) _ (and-r (s .current a y) _ e))
+next-cases s a y e = go (or-cases (same y a) _ (and-second (s .current a y) _ e))
   where
     go : (same y a ≡ true) ⊎ (s .received a (s .round a) y ≡ true) → (y ≡ a) ⊎ (s .received a (s .round a) y ≡ true)
     go (inl h) = inl (same-on y a h)

@@ -5,8 +5,8 @@ use mathlib.Core.Path.{_≡_}
 use mathlib.Core.Logic.{_≢_, _⊎_}
 use mathlib.Core.Bool.{Bool, true, false, not}
 use Prim.Native.Nat.{ℕ, suc, _≤_, _<_}
-use Rattle.sets.specs.Truth.{_&&_, _||_, same, below, choose}
-use Rattle.sets.specs.Lists.{count}
+use Rattle.sets.specs.Truth.{_and_, _or_, same, less, select}
+use Rattle.sets.specs.Lists.{countTo}
 
 -- `closed x`: how many estimates x has closed with: 0 before its start, then one more at its start and at each close.
 -- So its estimate number l (E(x, l) of the plan) is defined where l < closed x, and x decided at a close
@@ -33,15 +33,15 @@ pub record View : Type 0 where
 
 -- three numbers against three
 unfoldable pub same3 : ℕ → ℕ → ℕ → ℕ → ℕ → ℕ → Bool
-same3 x y z a b c = same x a && (same y b && same z c)
+same3 x y z a b c = same x a and (same y b and same z c)
 
 -- the round's next set at a: itself and those received, within its current set
 unfoldable pub next : View → ℕ → ℕ → Bool
-next s a y = s .current a y && (same y a || s .received a (s .round a) y)
+next s a y = s .current a y and (same y a or s .received a (s .round a) y)
 
 -- the message that a has to send: its decision, or its estimate of the round
 unfoldable pub slot : View → ℕ → ℕ
-slot s a = choose (s .decided a) 0 (s .round a)
+slot s a = select (s .decided a) 0 (s .round a)
 
 -- nothing of another process than a changes, nor who has crashed
 pub record Others (s s′ : View) (a : ℕ) : Type 0 where
@@ -85,9 +85,9 @@ pub record Start (n : ℕ) (s s′ : View) (a v : ℕ) : Type 0 where
   pub decided : s′ .decided a ≡ s .decided a
   pub round : s′ .round a ≡ 1
   pub closed : s′ .closed a ≡ suc (s .closed a)
-  pub previous : (y : ℕ) → s′ .previous a y ≡ below y n
-  pub current : (y : ℕ) → s′ .current a y ≡ (below y n && not (s .suspected a y))
-  pub outbox : (y : ℕ) → s′ .outbox a y ≡ (s′ .current a y && not (same y a))
+  pub previous : (y : ℕ) → s′ .previous a y ≡ less y n
+  pub current : (y : ℕ) → s′ .current a y ≡ (less y n and not (s .suspected a y))
+  pub outbox : (y : ℕ) → s′ .outbox a y ≡ (s′ .current a y and not (same y a))
   pub row : (k : ℕ) → s′ .row a 0 k ≡ same k a
   pub entry : s′ .entry a 0 a ≡ v
   pub estimate : (k : ℕ) → s′ .estimate a k ≡ same k a
@@ -107,8 +107,8 @@ pub record Send (n : ℕ) (s s′ : View) (a b : ℕ) : Type 0 where
   pub crashed : (x : ℕ) → s′ .crashed x ≡ s .crashed x
   pub received : (r y : ℕ) → s′ .received a r y ≡ s .received a r y
   pub suspected : (y : ℕ) → s′ .suspected a y ≡ s .suspected a y
-  pub outbox : (y : ℕ) → s′ .outbox a y ≡ (s .outbox a y && not (same y b))
-  pub transit : (x r y : ℕ) → s′ .transit x r y ≡ (same3 x r y a (slot s a) b || s .transit x r y)
+  pub outbox : (y : ℕ) → s′ .outbox a y ≡ (s .outbox a y and not (same y b))
+  pub transit : (x r y : ℕ) → s′ .transit x r y ≡ (same3 x r y a (slot s a) b or s .transit x r y)
 
 -- 3: message r of a arrives at b, as far as all its cases are alike
 pub record Arrive (n t : ℕ) (s s′ : View) (a r b : ℕ) : Type 0 where
@@ -122,22 +122,23 @@ pub record Arrive (n t : ℕ) (s s′ : View) (a r b : ℕ) : Type 0 where
   pub calm : Calm s s′ b
   pub crashed : (x : ℕ) → s′ .crashed x ≡ s .crashed x
   pub suspected : (y : ℕ) → s′ .suspected b y ≡ s .suspected b y
-  pub transit : (x m y : ℕ) → s′ .transit x m y ≡ (s .transit x m y && not (same3 x m y a r b))
+  pub transit : (x m y : ℕ) → s′ .transit x m y ≡ (s .transit x m y and not (same3 x m y a r b))
 
 -- an estimate that is kept: for a later round, or for this round and from the current set
-unfoldable pub kept : View → ℕ → ℕ → ℕ → Bool
-kept s a r b = below 0 r && (not (s .decided b) && (below (s .round b) r || (same r (s .round b) && s .current b a)))
+unfoldable pub keeping : View → ℕ → ℕ → ℕ → Bool
+keeping s a r b =
+    less 0 r and (not (s .decided b) and (less (s .round b) r or (same r (s .round b) and s .current b a)))
 
 pub record Keep (n t : ℕ) (s s′ : View) (a r b : ℕ) : Type 0 where
   pub arrive : Arrive n t s s′ a r b
-  pub kept-here : kept s a r b ≡ true
+  pub kept-here : keeping s a r b ≡ true
   pub decision : SameDecision s s′ b
   pub outbox : (y : ℕ) → s′ .outbox b y ≡ s .outbox b y
-  pub received : (m y : ℕ) → s′ .received b m y ≡ ((same m r && same y a) || s .received b m y)
+  pub received : (m y : ℕ) → s′ .received b m y ≡ ((same m r and same y a) or s .received b m y)
 
 -- a decision that b takes over
 unfoldable pub taken : View → ℕ → ℕ → Bool
-taken s r b = same r 0 && (not (s .decided b) && below 0 (s .round b))
+taken s r b = same r 0 and (not (s .decided b) and less 0 (s .round b))
 
 pub record Adopt (n t : ℕ) (s s′ : View) (a r b : ℕ) : Type 0 where
   pub arrive : Arrive n t s s′ a r b
@@ -146,12 +147,13 @@ pub record Adopt (n t : ℕ) (s s′ : View) (a r b : ℕ) : Type 0 where
   pub estimate : (k : ℕ) → s′ .estimate b k ≡ s .estimate a k
   pub value : (k : ℕ) → s′ .value b k ≡ s .value a k
   pub received : (m y : ℕ) → s′ .received b m y ≡ s .received b m y
-  pub outbox : (y : ℕ) → s′ .outbox b y ≡ (below y n && (not (same y b) && (not (s .suspected b y) && not (same y a))))
+  pub outbox : (y : ℕ) → s′ .outbox b y
+      ≡ (less y n and (not (same y b) and (not (s .suspected b y) and not (same y a))))
 
 -- neither: it only leaves transit
 pub record Ignore (n t : ℕ) (s s′ : View) (a r b : ℕ) : Type 0 where
   pub arrive : Arrive n t s s′ a r b
-  pub not-kept : kept s a r b ≡ false
+  pub not-kept : keeping s a r b ≡ false
   pub not-taken : taken s r b ≡ false
   pub decision : SameDecision s s′ b
   pub outbox : (y : ℕ) → s′ .outbox b y ≡ s .outbox b y
@@ -196,7 +198,7 @@ pub record Open (n t : ℕ) (s s′ : View) (a q : ℕ) : Type 0 where
   pub decided : s′ .decided a ≡ false
   pub previous : (y : ℕ) → s′ .previous a y ≡ s .current a y
   pub current : (y : ℕ) → s′ .current a y ≡ next s a y
-  pub outbox : (y : ℕ) → s′ .outbox a y ≡ (next s a y && not (same y a))
+  pub outbox : (y : ℕ) → s′ .outbox a y ≡ (next s a y and not (same y a))
   pub why : ((y : ℕ) × (y < n) × (s .previous a y ≢ next s a y))
       ⊎ (((k : ℕ) × (k < n) × Differ (s .estimate a k) (s .value a k) (s′ .row a (suc q) k) (s′ .entry a (suc q) k))
       ⊎ ((y k : ℕ) × (y < n) × (y ≢ a) × (next s a y ≡ true) × (k < n)
@@ -209,7 +211,7 @@ pub record Decide (n t : ℕ) (s s′ : View) (a q : ℕ) : Type 0 where
   pub decided : s′ .decided a ≡ true
   pub previous : (y : ℕ) → s′ .previous a y ≡ s .previous a y
   pub current : (y : ℕ) → s′ .current a y ≡ s .current a y
-  pub outbox : (y : ℕ) → s′ .outbox a y ≡ (below y n && (not (same y a) && not (s .suspected a y)))
+  pub outbox : (y : ℕ) → s′ .outbox a y ≡ (less y n and (not (same y a) and not (s .suspected a y)))
   -- before the last round: the sets are one, and so are the estimates
   pub same-sets : q < t → (y : ℕ) → s .previous a y ≡ next s a y
   pub same-own : q < t → (k : ℕ) → k < n → s .estimate a k ≡ s′ .row a (suc q) k
@@ -219,7 +221,7 @@ pub record Decide (n t : ℕ) (s s′ : View) (a q : ℕ) : Type 0 where
 pub record Crash (n t : ℕ) (s s′ : View) (a : ℕ) : Type 0 where
   pub low : a < n
   pub running : s .crashed a ≡ false
-  pub few : count n (s .crashed) < t
+  pub few : countTo n (s .crashed) < t
   pub others : Others s s′ a
   pub calm : Calm s s′ a
   pub decision : SameDecision s s′ a
@@ -227,7 +229,7 @@ pub record Crash (n t : ℕ) (s s′ : View) (a : ℕ) : Type 0 where
   pub received : (r y : ℕ) → s′ .received a r y ≡ s .received a r y
   pub suspected : (y : ℕ) → s′ .suspected a y ≡ s .suspected a y
   pub outbox : (y : ℕ) → s′ .outbox a y ≡ s .outbox a y
-  pub crashed : (x : ℕ) → s′ .crashed x ≡ (same x a || s .crashed x)
+  pub crashed : (x : ℕ) → s′ .crashed x ≡ (same x a or s .crashed x)
 
 -- 6: a suspects b
 pub record Suspect (n : ℕ) (s s′ : View) (a b : ℕ) : Type 0 where
@@ -244,19 +246,19 @@ pub record Suspect (n : ℕ) (s s′ : View) (a b : ℕ) : Type 0 where
   pub transit : (x r y : ℕ) → s′ .transit x r y ≡ s .transit x r y
   pub received : (r y : ℕ) → s′ .received a r y ≡ s .received a r y
   pub outbox : (y : ℕ) → s′ .outbox a y ≡ s .outbox a y
-  pub suspected : (y : ℕ) → s′ .suspected a y ≡ (same y b || s .suspected a y)
+  pub suspected : (y : ℕ) → s′ .suspected a y ≡ (same y b or s .suspected a y)
 
 -- an accepted record
-pub data Step (n t : ℕ) (s s′ : View) : Type 0 where
-  starts : {a v : ℕ} → Start n s s′ a v → Step n t s s′
-  sends : {a b : ℕ} → Send n s s′ a b → Step n t s s′
-  keeps : {a r b : ℕ} → Keep n t s s′ a r b → Step n t s s′
-  adopts : {a r b : ℕ} → Adopt n t s s′ a r b → Step n t s s′
-  ignores : {a r b : ℕ} → Ignore n t s s′ a r b → Step n t s s′
-  opens : {a q : ℕ} → Open n t s s′ a q → Step n t s s′
-  decides : {a q : ℕ} → Decide n t s s′ a q → Step n t s s′
-  crashes : {a : ℕ} → Crash n t s s′ a → Step n t s s′
-  suspects : {a b : ℕ} → Suspect n s s′ a b → Step n t s s′
+pub data OneStep (n t : ℕ) (s s′ : View) : Type 0 where
+  starts : {a v : ℕ} → Start n s s′ a v → OneStep n t s s′
+  sends : {a b : ℕ} → Send n s s′ a b → OneStep n t s s′
+  keeps : {a r b : ℕ} → Keep n t s s′ a r b → OneStep n t s s′
+  adopts : {a r b : ℕ} → Adopt n t s s′ a r b → OneStep n t s s′
+  ignores : {a r b : ℕ} → Ignore n t s s′ a r b → OneStep n t s s′
+  opens : {a q : ℕ} → Open n t s s′ a q → OneStep n t s s′
+  decides : {a q : ℕ} → Decide n t s s′ a q → OneStep n t s s′
+  crashes : {a : ℕ} → Crash n t s s′ a → OneStep n t s s′
+  suspects : {a b : ℕ} → Suspect n s s′ a b → OneStep n t s s′
 
 -- the opened bench: nothing has happened
 pub record Opened (s : View) : Type 0 where

@@ -9,7 +9,7 @@ use borrow.Author.Needs.{needs}
 use lib.ListN.{length}
 use Rattle.sets.specs.EveryLaws.{every-off, every-suc}
 use Rattle.sets.specs.Lists.{every}
-use Rattle.sets.specs.Truth.{_&&_, below}
+use Rattle.sets.specs.Truth.{_and_, less}
 use Rattle.sets.specs.TruthLaws.{not-on, not-off}
 use Rattle.calendar.specs.Calendar.{periodsIn, periodAt, wellFormed, lies}
 use Rattle.calendar.specs.PassLaws.{Marked, mark-none, mark-more}
@@ -51,7 +51,7 @@ loop-again c =
       rw add-one (every-suc (l .j) _ (l .inv .1) f),
       rw (add-one, c .union .ensures, c .before .before .slot-of .ensures .0, r)
           (mark-more (a .calendar .now) (a .monday) (l .j) (c .before .weekdays-in .result) (l .days) f
-          (λ i. c .before .weekdays-in .ensures i ∙ ap (λ p. below i 5 && lies (a .monday + i) p) r) (l .inv .2)),
+          (λ i. c .before .weekdays-in .ensures i ∙ ap (λ p. less i 5 and lies (a .monday + i) p) r) (l .inv .2)),
     )
 
 returns-2 : tie.Need-returns-2 Inv-loop μ-loop

@@ -3,7 +3,7 @@ use mathlib.Core.Path.{ap, ap₂, _∙_}
 use mathlib.Core.Bool.{Bool}
 use borrow.Author.Needs.{needs}
 use Rattle.sets.specs.Truth.{check}
-use Rattle.sets.specs.Tests.{both}
+use Rattle.sets.specs.Tests.{both-are}
 use Rattle.bench.specs.declared.Answer.{Answer}
 use Rattle.bench.specs.declared.Bench.{Bench}
 use Rattle.bench.specs.declared.Carried.{Carried}
@@ -22,7 +22,7 @@ returns c =
     ap (with-answer (d .before .args .b))
     (c .answer-by .ensures
     ∙ ap₂ (λ (sound plain : Bool). answerOf (check sound 2 (check plain 16 0))) (d .is-sound .ensures)
-    (both (c .before .before .processes-plain .ensures) (c .before .rows-plain .ensures)))
+    (both-are (c .before .before .processes-plain .ensures) (c .before .rows-plain .ensures)))
 
 pub carry-spec : {M : Type 1} → statement M
 carry-spec = tie.close (tie.spec (λ c κs. search needs) (λ c κs. search needs) (λ c κs. search needs)

@@ -9,7 +9,7 @@ use lib.ListN.{getD}
 use borrow.Author.Needs.{needs}
 use Rattle.sets.specs.Lists.{every}
 use Rattle.sets.specs.Set.{has}
-use Rattle.sets.specs.Truth.{_&&_, below, choose}
+use Rattle.sets.specs.Truth.{_and_, less, select}
 use Rattle.global_data.specs.declared.GlobalData.{GlobalData}
 use Rattle.bench.specs.Carry.{plainData}
 use Rattle.carry.proofs.data_plain.Statement.{statement}
@@ -17,7 +17,7 @@ use Rattle.carry.proofs.data_plain.Tie as tie
 
 -- the test of entry k
 abbrev plainAt : GlobalData → ℕ → Bool
-plainAt g k = choose (has (g .present) k) (below (getD (g .values) k 0) 65536) true
+plainAt g k = select (has (g .present) k) (less (getD (g .values) k 0) 65536) true
 
 abbrev Inv-loop : tie.InvT-loop
 Inv-loop g present ok₀ k₀ ok k = (k ≤ 16) × (ok ≡ every k (plainAt g))
@@ -30,7 +30,7 @@ unfolding every
 loop-holds c = (search needs, refl)
 
 loop-again : tie.Need-loop-again Inv-loop μ-loop
-unfolding every _&&_
+unfolding every _and_
 loop-again c = (
   search needs,
   rw (

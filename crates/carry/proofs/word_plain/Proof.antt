@@ -2,18 +2,18 @@
 use mathlib.Core.Path.{_≡_, refl}
 use mathlib.Core.Bool.{Bool, true, false, not}
 use mathlib.Core.Bool as core
-use Rattle.sets.specs.Truth.{below, choose}
+use Rattle.sets.specs.Truth.{less, select}
 use Rattle.carry.proofs.word_plain.Statement.{statement}
 use Rattle.carry.proofs.word_plain.Tie as tie
 
 -- absent, or the test
-chosen : (present test : Bool) → core._||_ (not present) test ≡ choose present test true
-unfolding choose
+chosen : (present test : Bool) → core._||_ (not present) test ≡ select present test true
+unfolding select
 chosen true test = refl
 chosen false test = refl
 
 returns : tie.Need-returns
-unfolding below
+unfolding less
 returns c = chosen _ _
 
 pub word-plain-spec : {M : Type 1} → statement M

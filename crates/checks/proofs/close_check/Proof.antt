@@ -5,9 +5,9 @@ use mathlib.Core.Bool as core
 use lib.Dec.{eqb}
 use borrow.Author.Needs.{needs}
 use Rattle.sets.specs.Set.{has}
-use Rattle.sets.specs.Tests.{both}
-use Rattle.sets.specs.Truth.{_&&_, same}
-use Rattle.sets.specs.TruthLaws.{and-l}
+use Rattle.sets.specs.Tests.{both-are}
+use Rattle.sets.specs.Truth.{_and_, same}
+use Rattle.sets.specs.TruthLaws.{and-first}
 use Rattle.process.specs.Steps.{takesPart}
 use Rattle.checks.specs.Checks.{firstFailed, closeCheck, first-possible, first-impossible, takes-started}
 use Rattle.checks.proofs.close_check.Statement.{statement}
@@ -17,13 +17,13 @@ use Rattle.checks.proofs.close_check.Tie as tie
 test : (c : tie.After-takes-part)
     → let x = c .before .before .args in
     core._&&_ (core._&&_ (c .takes-part .result) (eqb (x .p .outbox) 0)) (not (c .before .member .result))
-    ≡ ((takesPart (x .p) && same (x .p .outbox) 0) && not (has (x .crashed) (x .a)))
+    ≡ ((takesPart (x .p) and same (x .p .outbox) 0) and not (has (x .crashed) (x .a)))
 unfolding same
-test c = both (both (c .takes-part .ensures) refl) (ap not (c .before .member .ensures))
+test c = both-are (both-are (c .takes-part .ensures) refl) (ap not (c .before .member .ensures))
 
 due-requires : tie.Need-due-requires
 due-requires c κs =
-    let s = takes-started _ (and-l _ _ (and-l _ _ (sym (test (c .before .before)) ∙ c .if1 .taken))) in
+    let s = takes-started _ (and-first _ _ (and-first _ _ (sym (test (c .before .before)) ∙ c .if1 .taken))) in
     search needs
 
 returns : tie.Need-returns

@@ -1,12 +1,12 @@
 -- The four tests, handed to `first`.
-use Rattle.sets.specs.Truth.{below}
+use Rattle.sets.specs.Truth.{less}
 use Rattle.checks.specs.Checks.{crashCheck}
 use borrow.Author.Needs.{needs}
 use Rattle.checks.proofs.crash_check.Statement.{statement}
 use Rattle.checks.proofs.crash_check.Tie as tie
 
 returns : tie.Need-returns
-unfolding crashCheck below
+unfolding crashCheck less
 returns c = cc
 
 pub crash-check-spec : {M : Type 1} → statement M

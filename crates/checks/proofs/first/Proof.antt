@@ -1,20 +1,20 @@
 -- By the first test that fails: each check before it is passed over.
-use Rattle.sets.specs.Truth.{choose, check}
+use Rattle.sets.specs.Truth.{select, check}
 use Rattle.sets.specs.TruthLaws.{not-on, not-off}
 use Rattle.checks.specs.Checks.{firstFailed}
 use Rattle.checks.proofs.first.Statement.{statement}
 use Rattle.checks.proofs.first.Tie as tie
 
 returns : tie.Need-returns
-unfolding firstFailed check choose
+unfolding firstFailed check select
 returns c = rw (c .if1 .taken)
 
 returns-2 : tie.Need-returns-2
-unfolding firstFailed check choose
+unfolding firstFailed check select
 returns-2 c = rw (c .before .if1 .left, not-on (c .before .before .args .passes7) (c .if2 .taken))
 
 returns-3 : tie.Need-returns-3
-unfolding firstFailed check choose
+unfolding firstFailed check select
 returns-3 c = rw (
   c .before .before .if1 .left,
   not-off (c .before .before .before .args .passes7) (c .before .if2 .left),
@@ -22,7 +22,7 @@ returns-3 c = rw (
 )
 
 returns-4 : tie.Need-returns-4
-unfolding firstFailed check choose
+unfolding firstFailed check select
 returns-4 c = rw (
   c .before .before .before .if1 .left,
   not-off (c .before .before .before .before .args .passes7) (c .before .before .if2 .left),
@@ -31,7 +31,7 @@ returns-4 c = rw (
 )
 
 returns-5 : tie.Need-returns-5
-unfolding firstFailed check choose
+unfolding firstFailed check select
 returns-5 c = rw (
   c .before .before .before .if1 .left,
   not-off (c .before .before .before .before .args .passes7) (c .before .before .if2 .left),

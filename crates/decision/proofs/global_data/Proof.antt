@@ -4,7 +4,7 @@ use mathlib.Core.Bool.{true}
 use Prim.Native.Nat.{ℕ, _+_, _≤_, _<_}
 use native.Mathlib.Omega.{arith}
 use borrow.Author.Needs.{needs}
-use Rattle.sets.specs.TruthLaws.{and-l, and-r, not-on, not-off, below-on}
+use Rattle.sets.specs.TruthLaws.{and-first, and-second, not-on, not-off, less-on}
 use Rattle.bench.specs.State.{processAt}
 use Rattle.bench.specs.Sound.{soundOf}
 use Rattle.bench.specs.SoundLaws.{sound-on}
@@ -36,7 +36,7 @@ top c = omega (arith, sound-on (c .before .before .before .args .t1) (sound c) .
 -- x is a number 1 to n
 from-one : (n x : ℕ) → oneTo n x ≡ true → (0 < x) × (x < n + 1)
 unfolding oneTo
-from-one n x e = (below-on 0 x (and-l _ _ e), below-on x (n + 1) (and-r _ _ e))
+from-one n x e = (less-on 0 x (and-first _ _ e), less-on x (n + 1) (and-second _ _ e))
 
 placed : (c : tie.Else3)
     → let x = c .before .before .before .before .before .before .args .process in (0 < x) × (x < 17)

@@ -1,6 +1,6 @@
 -- `gerzulan_bench_carry` meets its contract: its code is walked by hand, since the bench is behind a reference.
--- The borrow is opened, the bench is read, `carry_by`, which is covered, does the work, and the borrow is closed at the
--- same bench, which is the one that carrying gives.
+-- The borrow is opened, the bench is read, `carry_by`, which is covered, does the work, and the borrow is closed at
+-- the same bench, which is the one that carrying gives.
 -- Plain data owns nothing but facts, so it is dropped and made anew from its relation.
 use mathlib.Core.Path.{_≡_, refl}
 use mathlib.Core.List.{List, [], _∷_}

@@ -1,6 +1,6 @@
 -- By the cause, and at the end of the schedule by whether a record was accepted.
 use mathlib.Core.Path.{sym}
-use Rattle.sets.specs.TruthLaws.{choose-on, choose-off, same-mk, same-off}
+use Rattle.sets.specs.TruthLaws.{select-on, select-off, same-mk, same-off}
 use Rattle.one_record.specs.OneRecord.{answerTo}
 use borrow.Author.Needs.{needs}
 use Rattle.one_record.proofs.answer_to.Statement.{statement}
@@ -8,11 +8,11 @@ use Rattle.one_record.proofs.answer_to.Tie as tie
 
 returns : tie.Need-returns
 unfolding answerTo
-returns c = rw (c .before .enum-told .given .1) (sym (choose-on _ _ _ (same-mk _ _ (c .if1 .taken))))
+returns c = rw (c .before .enum-told .given .1) (sym (select-on _ _ _ (same-mk _ _ (c .if1 .taken))))
 
 returns-2 : tie.Need-returns-2
 unfolding answerTo
-returns-2 c = rw (c .before .enum-told .given .1) (sym (choose-off _ _ _ (same-off _ _ (c .if1 .left))))
+returns-2 c = rw (c .before .enum-told .given .1) (sym (select-off _ _ _ (same-off _ _ (c .if1 .left))))
 
 returns-3 : tie.Need-returns-3
 unfolding answerTo

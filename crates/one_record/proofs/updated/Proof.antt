@@ -1,9 +1,9 @@
 -- Number by number.
 use mathlib.Core.Path.{_≡_, refl}
 use mathlib.Core.Bool as core
-use Rattle.sets.specs.Truth.{_&&_}
+use Rattle.sets.specs.Truth.{_and_}
 use Rattle.bench.specs.Calls.{tallied}
-use Rattle.sets.specs.Tests.{both}
+use Rattle.sets.specs.Tests.{both-are}
 use borrow.Author.Needs.{needs}
 use Rattle.one_record.proofs.updated.Statement.{statement}
 use Rattle.one_record.proofs.updated.Tie as tie
@@ -12,7 +12,7 @@ returns : tie.Need-returns
 unfolding tallied
 returns c =
     let a = c .before .before .before .args in
-    let e : core._&&_ (a .accepted) (a .crash) ≡ (a .accepted && a .crash) = both refl refl in
+    let e : core._&&_ (a .accepted) (a .crash) ≡ (a .accepted and a .crash) = both-are refl refl in
     rw (c .before .before .one-more .ensures, c .before .one-more2 .ensures, c .one-more3 .ensures, e)
 
 pub updated-spec : {M : Type 1} → statement M

@@ -3,7 +3,7 @@ use mathlib.Core.Path.{sym, ap, _∙_}
 use mathlib.Core.Logic.{⊎-elim}
 use native.Mathlib.Omega.{arith}
 use Rattle.sets.specs.Truth.{oneTo}
-use Rattle.sets.specs.TruthLaws.{one-mk, and-off-l, and-off-r, below-off, le-or}
+use Rattle.sets.specs.TruthLaws.{one-mk, and-off-l, and-off-r, less-off, le-or}
 use Rattle.bench.specs.Record.{checkDiet}
 use Rattle.bench.specs.RecordLaws.{parts-unknown, diet-refused}
 use Rattle.records.proofs.parts.Statement.{statement}
@@ -33,9 +33,9 @@ returns-7 c =
     let k = c .before .args .kind in
     let r = c .match .rest in
     sym (ap checkDiet (parts-unknown _ _ _ _ _ _ _
-    (⊎-elim (λ h. and-off-r _ _ (below-off _ _ h))
+    (⊎-elim (λ h. and-off-r _ _ (less-off _ _ h))
     (λ h. and-off-l _ _
-    (below-off _ _ (omega (arith, r .0 .0 .0 .0 .0 .1, r .0 .0 .0 .0 .1, r .0 .0 .0 .1, r .0 .0 .1, r .0 .1, r .1))))
+    (less-off _ _ (omega (arith, r .0 .0 .0 .0 .0 .1, r .0 .0 .0 .0 .1, r .0 .0 .0 .1, r .0 .0 .1, r .0 .1, r .1))))
     (le-or 7 k)))
     ∙ diet-refused _)
 

@@ -28,7 +28,7 @@ use Rattle.bench.specs.EveryInLaws.{Tested, tested-none, tested-more, tested-al
 use Rattle.bench.specs.SoundLaws.{soundParts, parts-small, sound-off, sound-rows, sound-on}
 use Rattle.bench.specs.RecordLaws.{messageIn}
 use Rattle.bench.specs.Refuse.{refuses}
-use Rattle.bench.specs.Calls.{endedOf}
+use Rattle.bench.specs.RunLoop.{endedOf}
 use Rattle.bench.specs.RunLaws.{run-damaged}
 use Rattle.run.specs.Turns.{Running, running-new, Turn, ends-empty, ends-spent, ends-short, ends-unread}
 use Rattle.run.specs.Turns.{ends-by, goes, Low, turn-sizes, turn-round, turn-last, turn-less, turn-low}
@@ -53,8 +53,8 @@ Inv-loop3 schedule budget s rows k at accepted from before n t crashed a p k′ 
     (i % 16 ≡ r) × Passing n (removeOf next a) (rowsIn (s .sent) r) old (i / 16) left (marked marks g) alike
 
 abbrev μ-loop3 : tie.MeasureT-loop3
-μ-loop3 schedule budget s rows k at accepted from before n t crashed a p k′ r next old g₀ marks₀ alike₀ left₀ i₀ g marks
-    alike left i =
+μ-loop3 schedule budget s rows k at accepted from before n t crashed a p k′ r next old g₀ marks₀ alike₀ left₀ i₀ g
+    marks alike left i =
     left
 
 abbrev Inv-loop2 : tie.InvT-loop2
@@ -144,8 +144,8 @@ row-slot c =
     omega (arith, passing-lt _ _ _ _ _ _ _ _ (v .1) (c .loop3-test .taken))
 
 close-slot : (c : tie.After-round-index3 Inv-loop μ-loop Inv-loop3 μ-loop3 Inv-loop2 μ-loop2)
-    → closedAt (c .before .before .before .before .before) .before .before .before .before .before .e5 .given .0 .0 * 16 + c
-    .round-index3 .result < 256
+    → closedAt (c .before .before .before .before .before) .before .before .before .before .before .e5 .given .0 .0 * 16
+    + c .round-index3 .result < 256
 close-slot c =
     slot-low _ _ (low-close (closedAt (c .before .before .before .before .before) .before .before .before .before))
     (c .round-index3 .ensures .1)
@@ -392,13 +392,9 @@ loop3-again c =
 -- ---- its end
 finish-requires : tie.Need-finish-requires Inv-loop μ-loop Inv-loop3 μ-loop3 Inv-loop2 μ-loop2
 finish-requires c κs =
-    let r = roundOf (c .before .before) in (
-      close-sizes r,
-      (
-        low-close (r .before .before .before .before),
-        (close-round (r .before), c .before .before .before .before .next .ensures),
-      ),
-    )
+    let r = roundOf (c .before .before) in
+    let z = close-sizes r in
+    ((z .0, omega arith), (low-close (r .before .before .before .before), omega (arith, close-round (r .before) .1)))
 
 -- what it comes to
 closed : (c : tie.After-finish Inv-loop μ-loop Inv-loop3 μ-loop3 Inv-loop2 μ-loop2)
@@ -407,14 +403,15 @@ closed : (c : tie.After-finish Inv-loop μ-loop Inv-loop3 μ-loop3 Inv-loop2 μ-
     .before .before .loop2 in
     Closes (m .closing) (c .finish .result .closing) (m .s)
     (r .before .before .before .before .before .e5 .given .0 .0)
-    (withEstimate (marked (c .before .before .loop3 .marks) (c .before .before .loop3 .g)) (c .finish .result .process))
+    (withEstimate (marked (c .before .before .loop3 .marks) (c .before .before .loop3 .g))
+    (c .finish .result .process))
 unfolding processAt
 closed c =
     let l = c .before .before .loop3 in
     let b = c .before .before .before in
     let z : l .left ≡ 0 = search needs in
     closes _ _ _ _ _ _ _ _ _ _ (roundOf b .round-index2 .ensures .0) (b .before .before .next .ensures)
-    (rw (z, b .before .old-estimate .ensures .0) at (l .inv .1)) (c .finish .ensures)
+    (rw (z, b .before .old-estimate .ensures .0) at (l .inv .1)) (close-sizes (roundOf b) .0) (c .finish .ensures)
 
 loop2-again-5 : tie.Need-loop2-again-5 Inv-loop μ-loop Inv-loop3 μ-loop3 Inv-loop2 μ-loop2
 unfolding withProcess processAt

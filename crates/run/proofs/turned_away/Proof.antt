@@ -1,6 +1,6 @@
 -- What is made is what the definition makes.
 use mathlib.Core.Path.{refl}
-use Rattle.bench.specs.Calls.{endedOf}
+use Rattle.bench.specs.RunLoop.{endedOf}
 use Rattle.run.proofs.turned_away.Statement.{statement}
 use Rattle.run.proofs.turned_away.Tie as tie
 

@@ -7,7 +7,7 @@ use borrow.Author.Needs.{needs}
 use Rattle.sets.specs.TruthLaws.{not-on, not-off, and-on-l, and-off-l}
 use Rattle.bench.specs.Sound.{opens}
 use Rattle.bench.specs.SoundLaws.{soundParts, open-few}
-use Rattle.sets.specs.Tests.{both}
+use Rattle.sets.specs.Tests.{both-are}
 use Rattle.soundness.proofs.parts_sound.Statement.{statement}
 use Rattle.soundness.proofs.parts_sound.Tie as tie
 
@@ -27,7 +27,7 @@ returns-2 : tie.Need-returns-2
 unfolding soundParts
 returns-2 c =
     let b = c .before .before in
-    both (b .before .set-within .ensures) (both (b .processes-sound .ensures) (c .sets-within .ensures))
+    both-are (b .before .set-within .ensures) (both-are (b .processes-sound .ensures) (c .sets-within .ensures))
     ∙ sym (and-on-l _ _ (sizes (b .before .before)))
 
 pub parts-sound-spec : {M : Type 1} → statement M

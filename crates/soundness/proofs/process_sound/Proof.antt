@@ -1,22 +1,22 @@
 -- `process_sound` makes the tests of the definition, one for each part of the process.
 use mathlib.Core.Path.{refl}
 use borrow.Author.Needs.{needs}
-use Rattle.sets.specs.Truth.{below}
+use Rattle.sets.specs.Truth.{less}
 use Rattle.bench.specs.Sound.{soundData, soundProcess}
-use Rattle.sets.specs.Tests.{both}
+use Rattle.sets.specs.Tests.{both-are}
 use Rattle.soundness.proofs.process_sound.Statement.{statement}
 use Rattle.soundness.proofs.process_sound.Tie as tie
 
 returns : tie.Need-returns
-unfolding soundProcess soundData below
+unfolding soundProcess soundData less
 returns c =
     let c₁ = c .before .before in
     let c₂ = c₁ .before .before in
-    both refl
-    (both (c₂ .before .before .set-within .ensures)
-    (both (c₂ .before .set-within2 .ensures)
-    (both (c₂ .set-within3 .ensures)
-    (both (c₁ .before .set-within4 .ensures) (both (c₁ .set-within5 .ensures) (c .sets-within .ensures))))))
+    both-are refl
+    (both-are (c₂ .before .before .set-within .ensures)
+    (both-are (c₂ .before .set-within2 .ensures)
+    (both-are (c₂ .set-within3 .ensures)
+    (both-are (c₁ .before .set-within4 .ensures) (both-are (c₁ .set-within5 .ensures) (c .sets-within .ensures))))))
 
 pub process-sound-spec : {M : Type 1} → statement M
 process-sound-spec = tie.close (tie.spec (λ c. search needs) (λ c. search needs) (λ c κs. search needs)

@@ -5,7 +5,7 @@ use Prim.Native.Nat.{ℕ, _+_, _*_, _^_, _≤_, _<_, _-_}
 use native.Mathlib.Omega.{arith}
 use lib.ListN.{length, getD}
 use borrow.Author.Needs.{needs}
-use Rattle.sets.specs.Laws.{size-le}
+use Rattle.sets.specs.Laws.{size-most}
 use Rattle.sets.specs.Lists.{joined}
 use Rattle.bench.specs.TransitLaws.{senderBytes, roundBytes, sum-more, size-length}
 use Rattle.transit.proofs.round_messages.Statement.{statement}
@@ -29,7 +29,7 @@ low c =
     s .pre .3 (c .before .before .before .loop .a * 17 + s .args .r)
 
 few : (c : tie.After-size Inv-loop μ-loop) → c .size .result ≤ 16
-few c = omega (arith, c .size .ensures, size-le (c .before .before .before .before .before .args .n) _ (low c))
+few c = omega (arith, c .size .ensures, size-most (c .before .before .before .before .before .args .n) _ (low c))
 
 loop-again : tie.Need-loop-again Inv-loop μ-loop
 unfolding senderBytes

@@ -6,7 +6,7 @@ use native.Mathlib.Nat.{le-antisymm}
 use native.Mathlib.Numerals.{add-one}
 use borrow.Author.Needs.{needs}
 use Rattle.sets.specs.Lists.{every}
-use Rattle.sets.specs.Truth.{_&&_}
+use Rattle.sets.specs.Truth.{_and_}
 use Rattle.global_data.specs.Laws.{marks, wordsSame, same-unmarked, same-words-marked}
 use Rattle.global_data.proofs.GlobalData.same.Statement.{statement}
 use Rattle.global_data.proofs.GlobalData.same.Tie as tie
@@ -35,7 +35,7 @@ unfolding every
 loop-holds c = (search needs, refl)
 
 loop-again : tie.Need-loop-again Inv-loop μ-loop
-unfolding every _&&_
+unfolding every _and_
 loop-again c = (
   search needs,
   rw (

@@ -1,13 +1,13 @@
 -- `Process::adopt` is the step: where `takes_part` holds it is `decide`, and else nothing changes.
 use mathlib.Core.Path.{sym, _∙_}
 use borrow.Author.Needs.{needs}
-use Rattle.sets.specs.Truth.{choose}
+use Rattle.sets.specs.Truth.{select}
 use Rattle.process.specs.Steps.{adoptOf}
 use Rattle.process.proofs.Process.adopt.Statement.{statement}
 use Rattle.process.proofs.Process.adopt.Tie as tie
 
 returns : tie.Need-returns
-unfolding adoptOf choose
+unfolding adoptOf select
 returns c =
     let b = c .before .before .before in
     rw (
@@ -18,7 +18,7 @@ returns c =
     )
 
 returns-2 : tie.Need-returns-2
-unfolding adoptOf choose
+unfolding adoptOf select
 returns-2 c = rw (sym (c .before .takes-part .ensures) ∙ c .if1 .left)
 
 pub adopt-spec : {M : Type 1} → statement M

@@ -58,15 +58,11 @@ returns c =
     let b = c .before .before .before .before in
     let z : l .left ≡ 0 = search needs in
     close-passed _ _ _ _ _ _ _ _ _ _ _ (b .before .before .next .ensures)
-    (rw (z, b .before .old-estimate .ensures .0) at (l .inv)) (c .before .finish .ensures)
-
-finish-requires : tie.Need-finish-requires Inv-loop μ-loop
-finish-requires c κs =
-    let p = c .before .before .before .before .before .pre in
-    (p .0, (p .1 .0, (p .1 .1, c .before .before .before .before .next .ensures)))
+    (rw (z, b .before .old-estimate .ensures .0) at (l .inv)) (b .before .before .before .pre .0 .0)
+    (c .before .finish .ensures)
 
 pub close-spec : {M : Type 1} → statement M
 close-spec = tie.close (tie.spec Inv-loop μ-loop (λ c κs. search needs) (λ c κs. search needs) (λ c κs. search needs)
     loop-holds (λ c. scaled-fits _ 16 _ (low (c .before)) (lit< tt)) (λ c. low (c .before)) fill-words-requires
     (λ c κs. search needs) (λ c. fits-under w64 _ 17 (omega (arith, low (c .before))) tt) loop-less loop-again
-    finish-requires returns)
+    (λ c κs. search needs) returns)

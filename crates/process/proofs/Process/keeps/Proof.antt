@@ -1,12 +1,12 @@
 -- `Process::keeps` is the test, joined by the same operators.
 use borrow.Author.Needs.{needs}
-use Rattle.sets.specs.Truth.{_&&_, _||_, below, same}
+use Rattle.sets.specs.Truth.{_and_, _or_, less, same}
 use Rattle.process.specs.Steps.{keeps}
 use Rattle.process.proofs.Process.keeps.Statement.{statement}
 use Rattle.process.proofs.Process.keeps.Tie as tie
 
 returns : tie.Need-returns
-unfolding keeps _&&_ _||_ below same
+unfolding keeps _and_ _or_ less same
 returns c = rw (c .before .has-decided .ensures, c .member .ensures)
 
 pub keeps-spec : {M : Type 1} → statement M

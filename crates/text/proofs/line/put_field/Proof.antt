@@ -1,7 +1,7 @@
 -- `put_field` stores a space and the digits, of which there are at most ten.
 use native.Mathlib.Omega.{arith}
 use borrow.Author.Needs.{needs}
-use Rattle.text.specs.Text.{field}
+use Rattle.text.specs.Text.{fieldOf}
 use Rattle.text.specs.TextLaws.{stores-then, short-number}
 use Rattle.text.proofs.line.put_field.Statement.{statement}
 use Rattle.text.proofs.line.put_field.Tie as tie
@@ -19,7 +19,7 @@ put-number-requires c κs =
     )
 
 returns : tie.Need-returns
-unfolding field
+unfolding fieldOf
 returns c =
     let p = c .before .before .before .before .before .before .put-byte in
     let q = c .before .before .put-number in

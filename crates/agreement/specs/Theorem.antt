@@ -30,14 +30,14 @@ use Rattle.bench.specs.SoundLaws.{sound-on}
 use Rattle.bench.specs.Refuse.{refusal}
 use Rattle.bench.specs.Record.{isKind}
 use Rattle.bench.specs.Calls.{refused, answerOf, afterEvents, wordAt, showOf, shownIn}
-use Rattle.agreement.specs.statement.History.{Call, afterCalls, answers, afterHistory, history, ruled}
+use Rattle.agreement.specs.statement.History.{Call, afterCalls, answers, afterHistory, history}
 use Rattle.agreement.specs.statement.History.{outcome, beforeDecision, startedWith, crashedIn, crashCount}
 use Rattle.agreement.specs.statement.History.{rounds}
 use Rattle.bench.specs.Carry.{carryOf, carryRefusal, plainStart}
 use Rattle.bench.specs.OldRulesLaws.{refused-now}
 use Rattle.agreement.specs.statement.Demand3.{Holds, Demand3}
-use Rattle.agreement.specs.statement.Carrying.{asOld, rewritten, takesBytes, Carrying, Across}
-use Rattle.agreement.specs.histories.Replay.{Next, along, sizes-to, sizes-from, Replayed, replay}
+use Rattle.agreement.specs.statement.Carrying.{asOld, takesBytes, Carrying, Across}
+use Rattle.agreement.specs.histories.Replay.{Next, along, sizes-to, sizes-from, replay}
 use Rattle.agreement.specs.invariants.Safety.{Good}
 use Rattle.agreement.specs.invariants.Agreement.{agree, valid, rounds-crashes}
 use Rattle.agreement.specs.invariants.RecordBound.{work-bound}

@@ -7,7 +7,7 @@ use Prim.Native.Nat.{ℕ, zero, suc, _/_}
 use lib.ListN.{getD, length, take, drop}
 use Rattle.sets.specs.Lists.{every, everyIn}
 use Rattle.sets.specs.Set.{has}
-use Rattle.sets.specs.Truth.{_and_, same, less, select, check}
+use Rattle.sets.specs.Truth.{_and_, less, select, check}
 use Rattle.global_data.specs.declared.GlobalData.{GlobalData}
 use Rattle.process.specs.declared.Process.{Process}
 use Rattle.bench.specs.declared.Bench.{Bench}

@@ -15,7 +15,7 @@ use Rattle.sets.specs.TruthLaws.{and-first, and-second, and-on-l, and-off-l, no
 use Rattle.global_data.specs.declared.GlobalData.{GlobalData}
 use Rattle.process.specs.declared.Process.{Process}
 use Rattle.process.specs.declared.Closing.{Closing}
-use Rattle.process.specs.declared.Closing.the-variants.{None, NextRound, Agreed, LastRound}
+use Rattle.process.specs.declared.Closing.the-variants.{None, LastRound}
 use Rattle.process.specs.Steps.{noProcess, hasDecided, takesPart, agreedOf, closingOf, closingNumber, opensNext}
 use Rattle.process.specs.Steps.{closeOf}
 use Rattle.process.specs.ClosingLaws.{closing-last, next-undecided}
@@ -37,7 +37,7 @@ use Rattle.bench.specs.Closings.{closingAt, isNone, lastOf}
 use Rattle.bench.specs.RunLoop.{closingDecoded, endsBy, closingIn}
 use Rattle.bench.specs.Calls.{runOf, afterRecord}
 use Rattle.bench.specs.RunLoop.{endedOf}
-use Rattle.bench.specs.LastLaws.{none-is, last-close, last-none}
+use Rattle.bench.specs.LastLaws.{none-is}
 use Rattle.bench.specs.OneByOne.{restAt, recordAt, steps}
 use Rattle.bench.specs.RunLaws.{rest-next, closingTo, run-sound, runs}
 

@@ -1,6 +1,5 @@
 -- How a round ended (request C-11), as the bench passes it up: of an event, and of one event after another.
 use mathlib.Core.Bool.{Bool}
-use Prim.Native.Nat.{ℕ}
 use Rattle.sets.specs.Truth.{same, select}
 use Rattle.process.specs.declared.Closing.{Closing}
 use Rattle.process.specs.declared.Closing.the-variants.{None}

@@ -6,7 +6,7 @@ use mathlib.Core.Path.{_≡_, refl, sym, ap, ap₂, _∙_}
 use mathlib.Core.List.{List, [], _∷_, _++_}
 use mathlib.Core.Bool.{Bool, true, false, not}
 use mathlib.Core.Logic.{_≢_, ⊎-elim}
-use Prim.Native.Nat.{ℕ, zero, suc, _+_, _-_, _*_, _/_, _≤_, _<_}
+use Prim.Native.Nat.{ℕ, zero, suc, _-_, _*_, _/_, _≤_, _<_}
 use native.Mathlib.Omega.{arith}
 use lib.ListN.{getD, length, take, drop, length-take, length-drop, length-append, take-append-drop}
 use lib.ListN.{drop-of-length-le}
@@ -31,7 +31,7 @@ use Rattle.bench.specs.RecordLaws.{From, diet-fit, diet-refused, read-fr
 use Rattle.bench.specs.Refuse.{actor, isCrash, passes7, passes8, passes9, refuses, refusesDecoded, refusalBy}
 use Rattle.bench.specs.Effect.{effect}
 use Rattle.bench.specs.Calls.{acceptedOne, acceptedIn, tallied, tallyBy, causeOf}
-use Rattle.bench.specs.OldRulesLaws.{Taken, taken}
+use Rattle.bench.specs.OldRulesLaws.{taken}
 use Rattle.bench.specs.RunLaws.{dropped, none-accepted, one-accepted, in-refused, in-from, in-accepted}
 use Rattle.bench.specs.Carry.{plainStart, rewrittenRecord, rewrittenTo, rewrittenSchedule}
 

@@ -27,7 +27,7 @@ use Rattle.bench.specs.RunLoop.{effectBy, effectOf}
 use Rattle.bench.specs.Closings.{closingAt, lastOf}
 use Rattle.bench.specs.RunLoop.{endsBy, closingIn}
 use Rattle.bench.specs.LastLaws.{last-none, none-last, last-last}
-use Rattle.bench.specs.OldRulesLaws.{Taken, taken, untaken}
+use Rattle.bench.specs.OldRulesLaws.{taken, untaken}
 use Rattle.bench.specs.Calls.{refused, answerOf, eventIn, acceptedOne, afterEvents, closingFrom, acceptedIn}
 use Rattle.bench.specs.Calls.{stepOf}
 use Rattle.bench.specs.Calls.{causeOf, runBy, runOf, afterRecord}

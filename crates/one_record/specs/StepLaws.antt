@@ -20,14 +20,14 @@ use Rattle.bench.specs.declared.Refusal.{Refusal}
 use Rattle.bench.specs.Sound.{soundOf}
 use Rattle.bench.specs.Record.{eventOf, decodeOf, v2, decodeAs}
 use Rattle.bench.specs.RecordLaws.{decode-from, decode-size}
-use Rattle.bench.specs.Refuse.{refusalBy, isCrash, refusal}
+use Rattle.bench.specs.Refuse.{isCrash, refusal}
 use Rattle.bench.specs.RefuseLaws.{refusal-damaged, refusal-unread, accepted, refused-keeps, accepted-effect}
 use Rattle.bench.specs.RunLoop.{effectOf}
 use Rattle.bench.specs.Closings.{lastOf}
 use Rattle.bench.specs.RunLoop.{closingIn}
 use Rattle.bench.specs.ClosingLaws.{closing-refused}
 use Rattle.bench.specs.LastLaws.{none-last}
-use Rattle.bench.specs.Calls.{refused, answerOf, stepOf, afterRecord}
+use Rattle.bench.specs.Calls.{refused, answerOf, stepOf}
 use Rattle.bench.specs.Calls.{tallied, crashDecoded, tallyOf, runOf}
 use Rattle.bench.specs.RunLoop.{endedOf, runFrom}
 use Rattle.one_record.specs.OneRecord.{recordIn, answerTo, steppedBy, isAccepted, crashByte}

@@ -3,7 +3,6 @@
 use mathlib.Core.Path.{_≡_, refl}
 use mathlib.Core.List.{List, [], _∷_, map}
 use mathlib.Core.Bool.{true}
-use Prim.Native.Nat.{ℕ}
 use Rattle.sets.specs.Set.{has, insertOf, removeOf, differenceOf, allOf, within}
 use lib.Count.{ones}
 use Rattle.sets.specs.Truth.{_and_, _or_, same, less, select, oneTo, check}

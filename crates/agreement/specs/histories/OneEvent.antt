@@ -11,8 +11,8 @@ use lib.ListN.{length}
 use Rattle.sets.specs.Set.{has, sizeOf}
 use Rattle.sets.specs.Laws.{has-insert, size-insert}
 use Rattle.sets.specs.Truth.{_and_, _or_, same, select, bit}
-use Rattle.sets.specs.TruthLaws.{Is, on, off, is, select-on, select-off, select-by, and-first, and-second, and-on-l}
-use Rattle.sets.specs.TruthLaws.{and-off-l, not-on, off-by, or-off-r, same-on, same-mk, same-off, same-refl}
+use Rattle.sets.specs.TruthLaws.{Is, on, off, is, select-on, select-off, select-by, and-first, and-second}
+use Rattle.sets.specs.TruthLaws.{not-on, off-by, or-off-r, same-on, same-mk, same-off, same-refl}
 use Rattle.sets.specs.TruthLaws.{less-on, by-both, eq-or}
 use Rattle.global_data.specs.declared.GlobalData.{GlobalData}
 use Rattle.global_data.specs.declared.Entry.the-variants.{Absent}

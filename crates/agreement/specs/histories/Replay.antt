@@ -17,7 +17,7 @@ use Rattle.bench.specs.RecordLaws.{inRange}
 use Rattle.bench.specs.Refuse.{refuses, refusalBy}
 use Rattle.bench.specs.Effect.{effect}
 use Rattle.bench.specs.Calls.{acceptedOne, afterEvents, acceptedIn}
-use Rattle.bench.specs.OldRulesLaws.{Taken, taken}
+use Rattle.bench.specs.OldRulesLaws.{taken}
 use Rattle.bench.specs.RunLaws.{none-accepted, one-accepted, in-refused, in-accepted}
 use Rattle.agreement.specs.statement.History.{Call, step, run, afterCall, givenBy, afterCalls, answers}
 use Rattle.agreement.specs.statement.History.{afterHistory, acceptedBy, addCall, history, ruled}

@@ -1,7 +1,7 @@
 -- Old calls whose accepted starts have values of at most 65,535 do the same as those of now with their records
 -- rewritten, and give the same: they accept the same events. By induction on the calls.
 use mathlib.Core.Path.{_≡_, refl, sym, ap, ap₂, _∙_}
-use mathlib.Core.List.{List, [], _∷_, _++_, map}
+use mathlib.Core.List.{List, [], _∷_, map}
 use mathlib.Core.Bool.{true}
 use Prim.Native.Nat.{ℕ, _-_, _*_}
 use lib.ListN.{length, drop}
@@ -16,7 +16,7 @@ use Rattle.bench.specs.Carry.{plainStart, rewrittenRecord, rewrittenSchedule}
 use Rattle.bench.specs.EveryInLaws.{bytes-every}
 use Rattle.bench.specs.RewriteLaws.{Bytes, every-split, bytes-rest, rewritten-refuses, rewritten-one, rewritten-tally}
 use Rattle.bench.specs.RewriteLaws.{drop-many, rewritten-run, rewritten-cause}
-use Rattle.agreement.specs.statement.History.{Call, step, run, Given, stepped, ran, afterCall, givenBy}
+use Rattle.agreement.specs.statement.History.{Call, step, run, stepped, ran, afterCall, givenBy}
 use Rattle.agreement.specs.statement.History.{afterCalls, answers, afterHistory, acceptedBy, addCall, history}
 use Rattle.agreement.specs.statement.Carrying.{asOld, rewritten, rewrittenRest, takesBytes}
 use Rattle.agreement.specs.histories.Replay.{left-by, bench-call}

@@ -3,7 +3,7 @@
 use Rattle.std.specs.Prelude.{◌≡◌, refl, ◌≢◌, List, [], ◌∷◌, ◌++◌, map, true, false, ℕ, suc, ◌+◌, ◌-◌, ◌*◌, ◌^◌, ◌≤◌, ◌<◌, length, get_or, drop}
 use Rattle.std.proofs.Math.Path.{sym, ap}
 use Rattle.std.proofs.Common.{ap₂, ◌∙◌}
-use Rattle.std.proofs.Math.Option.{Option, none, some, Option·elim, IsSome}
+use Rattle.std.proofs.Math.Option.{Option, none, some, Option-elim, IsSome}
 use native.Mathlib.Omega.{arith}
 use Rattle.std.proofs.Math.Pow.{are_bytes}
 use Rattle.sets.specs.Set.{has}
@@ -80,7 +80,7 @@ account n t o calls =
 
 -- what the history says of a decision is one
 is_some : (o : Option GlobalData) → is_decided o ≡ true → IsSome o
-unfolding is_decided Option·elim
+unfolding is_decided Option-elim
 is_some none d = clash false d refl
 is_some (some g) d = tt
 

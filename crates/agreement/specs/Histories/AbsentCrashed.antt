@@ -5,7 +5,7 @@ use Rattle.std.proofs.Common.{sym, ◌∙◌, inl, inr}
 use Rattle.std.proofs.Math.Path.{ap}
 use mathlib.Core.List.{List, [], ◌∷◌, ◌++◌}
 use Rattle.std.proofs.Math.Bool.{true, false}
-use Rattle.std.proofs.Math.Option.{Option·elim}
+use Rattle.std.proofs.Math.Option.{Option-elim}
 use Rattle.sets.specs.Set.{has}
 use Rattle.sets.specs.TruthLaws.{Is, on, off, is, clash, off_by, or_mk_l}
 use Rattle.process.specs.Steps.{has_decided}
@@ -42,7 +42,7 @@ first_opened n t x l d = clash _ d ((opened_view n t).decided x)
 -- what the history says of a decision
 pub decided_is : (n t : ℕ) (h : List Event) → Told n t h → (x : ℕ)
     → is_decided (outcome (opened_of n t) h x) ≡ has_decided (process_at (after_history n t h) x)
-unfolding is_decided Option·elim
+unfolding is_decided Option-elim
 decided_is n t h T x = go (is (has_decided (process_at (after_history n t h) x)))
   where
     go : Is (has_decided (process_at (after_history n t h) x))

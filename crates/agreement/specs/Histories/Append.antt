@@ -2,7 +2,7 @@
 -- by induction on the first.
 use Rattle.std.specs.Prelude.{◌≡◌, refl, List, [], ◌∷◌, ◌++◌, Bool, true, false, ◌⊎◌, ℕ, ◌+◌}
 use Rattle.std.proofs.Common.{sym, ap, ◌∙◌, inl, inr, arith}
-use Rattle.std.proofs.Math.Option.{Option, none, some, Option·elim, or_else}
+use Rattle.std.proofs.Math.Option.{Option, none, some, Option-elim, or_else}
 use Rattle.sets.specs.Truth.{◌and◌, ◌or◌, same, select}
 use Rattle.sets.specs.TruthLaws.{Is, on, off, is, clash, select_on, or_none_l, or_none_r, or_cases, same_refl}
 use Rattle.global_data.specs.declared.GlobalData.{GlobalData}
@@ -120,36 +120,36 @@ started_append (Suspect a b ∷ h) g k = started_append h g k
 -- ---- the records before the first decision
 -- whether x has decided
 unfoldable pub is_decided : Option GlobalData → Bool
-is_decided o = Option·elim o false (λ g. true)
+is_decided o = Option-elim o false (λ g. true)
 
 first_decided : (o p : Option GlobalData) → is_decided (or_else o p) ≡ (is_decided o or is_decided p)
-unfolding or_else is_decided Option·elim ◌or◌
+unfolding or_else is_decided Option-elim ◌or◌
 first_decided none p = refl
 first_decided (some g) p = refl
 
 -- the first record decides, or it does not
 before_on : (e : Event) (s : Bench) (h : List Event) → is_decided (decides_at e s) ≡ true → before_decision s (e ∷ h) ≡ []
-unfolding before_decision is_decided Option·elim
+unfolding before_decision is_decided Option-elim
 before_on e s h = go (decides_at e s)
   where
     go : (o : Option GlobalData) → is_decided o ≡ true
-        → Option·elim o (e ∷ before_decision (effect e s) h) (λ g. []) ≡ []
+        → Option-elim o (e ∷ before_decision (effect e s) h) (λ g. []) ≡ []
     go none d = clash false d refl
     go (some g) d = refl
 
 before_off : (e : Event) (s : Bench) (h : List Event) → is_decided (decides_at e s) ≡ false
     → before_decision s (e ∷ h) ≡ e ∷ before_decision (effect e s) h
-unfolding before_decision is_decided Option·elim
+unfolding before_decision is_decided Option-elim
 before_off e s h = go (decides_at e s)
   where
     go : (o : Option GlobalData) → is_decided o ≡ false
-        → Option·elim o (e ∷ before_decision (effect e s) h) (λ g. []) ≡ e ∷ before_decision (effect e s) h
+        → Option-elim o (e ∷ before_decision (effect e s) h) (λ g. []) ≡ e ∷ before_decision (effect e s) h
     go none d = refl
     go (some g) d = clash true refl d
 
 -- a record that decides x decides
 for_decides : (e : Event) (s : Bench) (x : ℕ) → is_decided (decides_for e s x) ≡ true → is_decided (decides_at e s) ≡ true
-unfolding decides_for select is_decided Option·elim
+unfolding decides_for select is_decided Option-elim
 for_decides e s x = go (same (actor e) x)
   where
     go : (b : Bool) → is_decided (select b (decides_at e s) none) ≡ true → is_decided (decides_at e s) ≡ true
@@ -159,7 +159,7 @@ for_decides e s x = go (same (actor e) x)
 -- some process has decided: what comes after does not matter
 pub before_decided : (s : Bench) (h g : List Event) (x : ℕ) → is_decided (outcome s h x) ≡ true
     → before_decision s (h ++ g) ≡ before_decision s h
-unfolding outcome decides_for is_decided Option·elim
+unfolding outcome decides_for is_decided Option-elim
 before_decided s [] g x d = clash false d refl
 before_decided s (e ∷ h) g x d =
     go (is (is_decided (decides_at e s))) (or_cases (is_decided (decides_for e s x)) (is_decided (outcome (effect e s) h x))

@@ -2,7 +2,7 @@
 -- start and crash, and how many have crashed. It is read at the process that acts and at the others.
 use Rattle.std.specs.Prelude.{◌≡◌, refl, [], ◌∷◌, Bool, true, false, ◌≢◌, ◌⊎◌, ℕ, ◌+◌, ◌<◌, length}
 use Rattle.std.proofs.Common.{sym, ap, ◌∙◌, inl, inr, arith}
-use Rattle.std.proofs.Math.Option.{Option, none, some, Option·elim, or_else}
+use Rattle.std.proofs.Math.Option.{Option, none, some, Option-elim, or_else}
 use Rattle.sets.specs.Set.{has, size_of}
 use Rattle.sets.specs.Laws.{has_insert, size_insert}
 use Rattle.sets.specs.Truth.{◌and◌, ◌or◌, same, select, bit}
@@ -164,8 +164,8 @@ opens_for e s x = select (same (actor e) x) (opens_at e s) 0
 
 -- a close by the test d
 close_round : (d : Bool) (r : ℕ) (q q' : Process) (g : GlobalData) → q.round ≡ r → q'.round ≡ r + 1
-    → (select d q q').round ≡ r + Option·elim (select d (some g) none) 1 (λ f. 0)
-unfolding select Option·elim
+    → (select d q q').round ≡ r + Option-elim (select d (some g) none) 1 (λ f. 0)
+unfolding select Option-elim
 close_round true r q q' g e f = omega arith
 close_round false r q q' g e f = omega arith
 

@@ -227,7 +227,7 @@ module _ (n t : ℕ) (s s' : View) (B : Basic n t s) where
     bound = omega (arith, S.round);
     decided_started = λ e. omega (arith, S.round);
     estimate_is = λ q e h k. let z : q ≡ 0 = omega (arith, S.round) in rw z (S.estimate k ∙ sym (S.row k));
-    value_is = λ q e h k. let z : q ≡ 0 = omega (arith, S.round) in rw z (S.Value-row k);
+    value_is = λ q e h k. let z : q ≡ 0 = omega (arith, S.round) in rw z (S.value_row k);
     previous_low = λ y e. less_on y n (sym (S.previous y) ∙ e);
     current_low = λ y e. less_on y n (and_first _ _ (sym (S.current y) ∙ e));
     outbox_is = λ y e.

@@ -1,7 +1,7 @@
 -- What demand 3 speaks of (document 01): lists of calls, the history that they make,
 -- and what the rules give over a history.
 use Rattle.std.specs.Prelude.{List, [], ◌∷◌, ◌++◌, Bool, false, ℕ, ◌+◌, drop}
-use Rattle.std.proofs.Math.Option.{Option, none, some, Option·elim, or_else}
+use Rattle.std.proofs.Math.Option.{Option, none, some, Option-elim, or_else}
 use Rattle.sets.specs.Truth.{◌and◌, ◌or◌, same, bit, select}
 use Rattle.global_data.specs.declared.GlobalData.{GlobalData}
 use Rattle.global_data.specs.declared.Entry.{Entry}
@@ -104,7 +104,7 @@ outcome s (e ∷ h) x = or_else (select (same (actor e) x) (decides_at e s) none
 -- the records before the first decision, all of them where there is none
 unfoldable pub before_decision : Bench → List Event → List Event
 before_decision s [] = []
-before_decision s (e ∷ h) = Option·elim (decides_at e s) (e ∷ before_decision (effect e s) h) (λ g. [])
+before_decision s (e ∷ h) = Option-elim (decides_at e s) (e ∷ before_decision (effect e s) h) (λ g. [])
 
 -- ---- starts, crashes and rounds in a history
 -- the value of the start of k, portions and diet portions; Absent where it has not started
@@ -126,7 +126,7 @@ crash_count (e ∷ h) = bit (is_crash e) + crash_count h
 
 -- how many rounds a record opens at its acting process: round 1 a start, the next a close that does not decide it
 unfoldable pub opens_at : Event → Bench → ℕ
-opens_at e s = by_kind (λ a v. 1) (λ a. Option·elim (decides_at e s) 1 (λ g. 0)) 0 0 e
+opens_at e s = by_kind (λ a v. 1) (λ a. Option-elim (decides_at e s) 1 (λ g. 0)) 0 0 e
 
 -- how many rounds x has opened
 unfoldable pub rounds : Bench → List Event → ℕ → ℕ

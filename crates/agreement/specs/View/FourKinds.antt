@@ -192,7 +192,7 @@ module _ (n t : ℕ) (s s' : View) (B : Basic n t s) where
           go (inl h) = inr (
             same_on m r (and_first _ _ h),
             same_on y a (and_second (same m r) _ h),
-            less_on 0 r (and_first _ _ K.Kept-here),
+            less_on 0 r (and_first _ _ K.kept_here),
           )
           go (inr h) = inl h
 

@@ -1,6 +1,8 @@
 // Aggregates of global data (document 01: sums of a sheet): of n entries and their present marks, bit i for entry i.
 // No word under an absent entry is read. A word holds portions and diet portions; the aggregates read portions, and
 // the lead's ties diet portions too.
+#![tactic(auto)]
+
 ghost use Rattle.std.specs.Prelude.{◌≡◌, ◌<◌, ◌≤◌, length, pos, ◌-ℤ◌};
 ghost use Rattle.aggregates.specs.Aggregates.{refusal_of, total_to, go, led, changed};
 ghost use Rattle.aggregates.specs.Aggregates.{total_of, go_of, lead_of, change_of};
@@ -13,37 +15,37 @@ use global_data::{Entry, diet_fits, value_in};
 use sets::{one_to, set_within};
 
 // A refusal, by document 01's number.
-#[derive(Drop)]
+#[derive(Clone, Copy)]
 pub struct Refusal {
     pub number: u8,
 }
 
-#[derive(Drop)]
+#[derive(Clone, Copy)]
 pub enum TotalAnswer {
     Total(u64),
     Refused(Refusal),
 }
 
-#[derive(Drop)]
+#[derive(Clone, Copy)]
 pub enum GoAnswer {
     Go(bool),
     Refused(Refusal),
 }
 
-#[derive(Drop)]
+#[derive(Clone, Copy)]
 pub enum LeadAnswer {
     Lead { process: u8, portions: u16 },
     Refused(Refusal),
 }
 
-#[derive(Drop)]
+#[derive(Clone, Copy)]
 pub enum ChangeAnswer {
     Difference(i64),
     Refused(Refusal),
 }
 
 // A process, by its number from 1, with what its entry holds.
-#[derive(Drop)]
+#[derive(Clone, Copy)]
 pub struct Candidate {
     pub process: u8,
     pub portions: u16,
@@ -51,7 +53,7 @@ pub struct Candidate {
 }
 
 // The lead among the entries looked at.
-#[derive(Drop)]
+#[derive(Clone, Copy)]
 pub enum Leader {
     Nobody,
     Leads(Candidate),

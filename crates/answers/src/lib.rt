@@ -1,5 +1,7 @@
 // What each call answers a host as a number, with the bench by value: the exported calls
 // are thin over these functions.
+#![tactic(auto)]
+
 ghost use Rattle.std.specs.Prelude.{◌≡◌};
 ghost use Rattle.process.specs.Steps.{closing_number};
 ghost use Rattle.bench.specs.Calls.{show_of, shown_in};
@@ -16,14 +18,14 @@ use process::Closing;
 use transit::in_transit;
 
 // What opening gives a host.
-#[derive(Drop)]
+#[derive(Clone, Copy)]
 pub struct HostOpened {
     pub bench: Bench,
     pub number: u32,
 }
 
 // What the call for one record gives a host, beside the bench.
-#[derive(Drop)]
+#[derive(Clone, Copy)]
 pub struct HostStepped {
     pub counters: Counters,
     pub number: u32,
@@ -33,7 +35,7 @@ pub struct HostStepped {
 // How far a run came: the records it accepted, how the last round ended that it closed, and the bytes of the schedule
 // it took.
 #[repr(C)]
-#[derive(Drop)]
+#[derive(Clone, Copy)]
 pub struct Progress {
     pub accepted: u32,
     pub closing: u8,
@@ -41,7 +43,7 @@ pub struct Progress {
 }
 
 // How a run of a lent bench ended.
-#[derive(Drop)]
+#[derive(Clone, Copy)]
 pub struct Reached {
     pub accepted: u32,
     pub cause: Cause,
@@ -50,7 +52,7 @@ pub struct Reached {
 }
 
 // What a run gives a host, beside the bench.
-#[derive(Drop)]
+#[derive(Clone, Copy)]
 pub struct HostRan {
     pub progress: Progress,
     pub number: u32,

@@ -1,4 +1,6 @@
 // A bench of processes, their network and their failure detector, stepped by records.
+#![tactic(auto)]
+
 mod open;
 
 use global_data::GlobalData;
@@ -6,14 +8,14 @@ pub use open::sizes_open;
 use process::{Closing, Process};
 
 // A message: an estimate with its round, or a decision. Its global data is kept in the bench.
-#[derive(Drop)]
+#[derive(Clone, Copy)]
 pub enum Message {
     Estimate { round: usize },
     Decision,
 }
 
 // A record, once it is decoded. Processes are numbered from 0 here.
-#[derive(Drop)]
+#[derive(Clone, Copy)]
 pub enum Event {
     // starts with a value
     Start {
@@ -47,19 +49,19 @@ pub enum Event {
 }
 
 // A number of document 01's table of what is turned away.
-#[derive(Drop)]
+#[derive(Clone, Copy)]
 pub struct Refusal {
     pub number: u8,
 }
 
-#[derive(Drop)]
+#[derive(Clone, Copy)]
 pub enum Decoded {
     Got(Event),
     Refused(Refusal),
 }
 
 // What a call that steps or opens answers.
-#[derive(Drop)]
+#[derive(Clone, Copy)]
 pub enum Answer {
     Accepted,
     Refused(Refusal),
@@ -69,7 +71,7 @@ pub enum Answer {
 // and each round from 1 the estimate that it held when the round opened, and for each of them and each message (0: its
 // decision) to whom it is on its way.
 #[repr(C)]
-#[derive(Drop)]
+#[derive(Clone, Copy)]
 pub struct Bench {
     pub n: u8,
     pub t: u8,
@@ -80,21 +82,21 @@ pub struct Bench {
 }
 
 // What opening gives; refused, the bench is all zero.
-#[derive(Drop)]
+#[derive(Clone, Copy)]
 pub struct Opened {
     pub answer: Answer,
     pub bench: Bench,
 }
 
 // What carrying gives; the bench is as it was in any case.
-#[derive(Drop)]
+#[derive(Clone, Copy)]
 pub struct Carried {
     pub answer: Answer,
     pub bench: Bench,
 }
 
 // What the call for one record gives. A closing is that of an accepted close, and none of any other record.
-#[derive(Drop)]
+#[derive(Clone, Copy)]
 pub struct Stepped {
     pub answer: Answer,
     pub closing: Closing,
@@ -103,7 +105,7 @@ pub struct Stepped {
 
 // The host's tally.
 #[repr(C)]
-#[derive(Drop)]
+#[derive(Clone, Copy)]
 pub struct Counters {
     pub accepted: u32,
     pub refused: u32,
@@ -111,7 +113,7 @@ pub struct Counters {
 }
 
 // Why a run ended.
-#[derive(Drop)]
+#[derive(Clone, Copy)]
 pub enum Cause {
     Empty,
     Spent,
@@ -120,7 +122,7 @@ pub enum Cause {
 
 // What a run gives: the bench, how many records it accepted, why it ended, the closing of the last close it stepped,
 // and how many bytes of the schedule it took.
-#[derive(Drop)]
+#[derive(Clone, Copy)]
 pub struct Ended {
     pub bench: Bench,
     pub accepted: u32,
@@ -130,14 +132,14 @@ pub struct Ended {
 }
 
 // What the call for a process's global data answers: the present marks.
-#[derive(Drop)]
+#[derive(Clone, Copy)]
 pub enum Shown {
     Marks(u16),
     Refused(Refusal),
 }
 
 // What the call for the list in transit answers: how many messages there are.
-#[derive(Drop)]
+#[derive(Clone, Copy)]
 pub enum Listed {
     Count(usize),
     Refused(Refusal),

@@ -107,6 +107,7 @@ module _ (takes : ℕ → Bool) where
   number_one s r ls lr es er e = go (le-or s r) (le-or r s)
     where
       before : (a b : ℕ) → a < b → takes b ≡ true → how_many takes a < how_many takes b
+      before a zero h t = elim h [ ]
       before a (suc b) h t =
           omega (arith, many_le a b (omega arith), many_on b (rw add-one t))
 

@@ -1,4 +1,6 @@
 // The school calendar (request C-14): which sites take part in a week, and how their processes are numbered.
+#![tactic(auto)]
+
 ghost use Rattle.std.specs.Prelude.{◌≡◌, true, ℕ, ◌+◌, ◌-◌, ◌/◌, ◌<◌, ◌≤◌, min, length};
 ghost use Rattle.sets.specs.Set.{has};
 ghost use Rattle.sets.specs.Truth.{◌and◌, less};
@@ -10,7 +12,7 @@ ghost use Rattle.calendar.specs.PassLaws.{slot_of, Marked, Collected, some_day};
 use sets::{difference, member, one_to};
 
 // A record: the days on which a site has term (kind 1) or is closed (kind 2). The last two bytes are to be 0.
-#[derive(Drop)]
+#[derive(Clone, Copy)]
 pub struct Period {
     pub site: u8,
     pub kind: u8,
@@ -21,7 +23,7 @@ pub struct Period {
 
 // How many sites take part, the process of each site and the site of each process; 0 for none.
 #[repr(C)]
-#[derive(Drop)]
+#[derive(Clone, Copy)]
 pub struct Numbering {
     pub n: u8,
     pub process_of: [u8; 16],
@@ -29,14 +31,14 @@ pub struct Numbering {
 }
 
 // 0, or the number of the refusal, with all of the numbering 0.
-#[derive(Drop)]
+#[derive(Clone, Copy)]
 pub struct WeekAnswer {
     pub answer: u8,
     pub numbering: Numbering,
 }
 
 // Monday to Friday of one week, as a set for each kind and site: of kind k and site s at 16 (k - 1) + s - 1.
-#[derive(Drop)]
+#[derive(Clone, Copy)]
 struct Marks {
     valid: bool,
     days: [u16; 32],

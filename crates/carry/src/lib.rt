@@ -1,4 +1,6 @@
 // Carrying a bench of before diet portions over: refused by 2, then by 16, and no word of it changes.
+#![tactic(auto)]
+
 ghost use Rattle.std.specs.Prelude.{◌≡◌, true};
 ghost use Rattle.sets.specs.Lists.{every_in};
 ghost use Rattle.sets.specs.Truth.{less, select, check};

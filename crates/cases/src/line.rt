@@ -1,7 +1,7 @@
 // A line of the table: a first letter, which names a call, and the call's numbers. Other text is for the reader alone.
 
 // What is read of a line so far: its letter, its numbers, how many of them have ended, and whether the next has begun.
-#[derive(Drop)]
+#[derive(Clone, Copy)]
 pub struct Line {
     pub letter: u8,
     pub numbers: [u8; 128],

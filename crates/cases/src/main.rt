@@ -1,4 +1,6 @@
 // Runs the table on standard input: writes each line of it, and after one that names a call what the call answers.
+#![tactic(auto)]
+
 mod calls;
 mod line;
 

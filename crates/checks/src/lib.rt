@@ -1,4 +1,6 @@
 // Checks 6 to 9 of each event, on the parts of the bench that it looks at: the number of the first that fails, or 0.
+#![tactic(auto)]
+
 ghost use Rattle.std.specs.Prelude.{◌≡◌, ◌<◌, ◌≤◌};
 ghost use Rattle.checks.specs.Checks.{first_failed, start_check, message_check};
 ghost use Rattle.checks.specs.Checks.{close_check, crash_check, suspect_check};

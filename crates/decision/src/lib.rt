@@ -1,4 +1,6 @@
 // The global data that a process has decided on: its entries in a lent slice, and the present marks.
+#![tactic(auto)]
+
 ghost use Rattle.std.specs.Prelude.{◌≡◌, ◌++◌, ◌≤◌, length, drop};
 ghost use Rattle.sets.specs.Lists.{each};
 ghost use Rattle.sets.specs.Truth.{select};

@@ -1,5 +1,7 @@
 // The aggregates of global data for a host in C or Rust (include/gerzulan.h). A call gives 0 and writes the lent word,
 // or gives the number of its refusal and leaves the word.
+#![tactic(auto)]
+
 ghost use Rattle.std.specs.Prelude.{◌≡◌};
 ghost use Rattle.aggregates.specs.Aggregates.{total_of, go_of, lead_of, change_of};
 ghost use Rattle.sets.specs.Truth.{bit};

@@ -1,5 +1,7 @@
 // The calls for a host in C or Rust (include/gerzulan.h) on a bench that it lends: each reads it, has the work done by
 // value, and stores what comes of it. What a call answers is a number, by the definitions of `answers`.
+#![tactic(auto)]
+
 ghost use Rattle.std.specs.Prelude.{◌≡◌};
 ghost use Rattle.process.specs.Steps.{closing_number};
 ghost use Rattle.bench.specs.Calls.{open_of, step_of, tally_of, run_of, show_of, shown_in};

@@ -1,5 +1,7 @@
 // The school calendar for a host in C or Rust (include/gerzulan.h). The call gives 0 and writes the lent numbering,
 // or gives the number of its refusal and leaves the numbering.
+#![tactic(auto)]
+
 ghost use Rattle.std.specs.Prelude.{◌≡◌};
 ghost use Rattle.calendar.specs.Calendar.{week_of};
 ghost use Rattle.export_calendar.specs.Numbers.{numbering_in, host_week_of};
@@ -7,7 +9,7 @@ ghost use Rattle.export_calendar.specs.Numbers.{numbering_in, host_week_of};
 use calendar::Numbering;
 
 // What the host gets: the numbering, and 0 or the number of the refusal.
-#[derive(Drop)]
+#[derive(Clone, Copy)]
 pub struct HostWeek {
     pub numbering: Numbering,
     pub number: u32,

@@ -1,5 +1,7 @@
 // The global data: an entry for each process, absent or a value. An entry is absent where its present
 // bit is clear, and 0 is a value.
+#![tactic(auto)]
+
 ghost use Rattle.std.specs.Prelude.{◌≡◌, true, ◌<◌, ◌≤◌, length};
 ghost use Rattle.sets.specs.Truth.{same, select};
 ghost use Rattle.global_data.specs.declared.Entry.{Entry};
@@ -7,7 +9,7 @@ ghost use Rattle.global_data.specs.GlobalData.{portions_of, diet_of, value_in, d
 ghost use Rattle.global_data.specs.GlobalData.{nothing_of, one_of, fill_of, same_to};
 
 // An entry: document 01's blank, or a value: portions, and the diet portions among them.
-#[derive(Drop)]
+#[derive(Clone, Copy)]
 pub enum Entry {
     Absent,
     Value { portions: u16, diet: u16 },
@@ -15,7 +17,7 @@ pub enum Entry {
 
 // The word of a present entry has its portions in the low half and its diet portions in the high half.
 #[repr(C)]
-#[derive(Drop)]
+#[derive(Clone, Copy)]
 pub struct GlobalData {
     pub present: u16,
     pub values: [u32; 16],

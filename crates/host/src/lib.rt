@@ -1,6 +1,8 @@
 // The calls as a host makes them, in the forms that document 01 names: run hands back the
 // part of the lent schedule that it has not taken, and the call for one record updates the tally that the host lends.
 // Each is thin, over functions by value.
+#![tactic(auto)]
+
 ghost use Rattle.std.specs.Prelude.{◌≡◌, drop};
 ghost use Rattle.bench.specs.Calls.{run_of, step_of, tally_of};
 
@@ -10,7 +12,7 @@ use process::Closing;
 use run::run_bytes;
 
 // What a run gives, with the part of the caller's schedule that it has not taken.
-#[derive(Drop)]
+#[derive(Clone, Copy)]
 pub struct Ran<'a> {
     pub bench: Bench,
     pub accepted: u32,

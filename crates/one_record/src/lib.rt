@@ -1,5 +1,7 @@
 // The call for one record and the host's tally, by value, and the part of a schedule that is left.
 // The forms that lend a struct or hand back the rest of the schedule are in `host`.
+#![tactic(auto)]
+
 ghost use Rattle.std.specs.Prelude.{◌≡◌, drop};
 ghost use Rattle.bench.specs.Calls.{raised, step_of, tallied};
 ghost use Rattle.one_record.specs.OneRecord.{answer_to, record_in, is_accepted, crash_byte, counted_of};
@@ -8,7 +10,7 @@ use bench::{Answer, Bench, Cause, Counters, Refusal, Stepped};
 use run::run_bytes;
 
 // What the call for one record gives, with the tally after it.
-#[derive(Drop)]
+#[derive(Clone, Copy)]
 pub struct Counted {
     pub stepped: Stepped,
     pub counters: Counters,

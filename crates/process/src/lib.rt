@@ -1,5 +1,7 @@
 // One process's own part in the protocol: what it holds, and its steps. The node, which comes later, is to be built
 // on it.
+#![tactic(auto)]
+
 ghost use Rattle.std.specs.Prelude.{◌≡◌, ◌<◌, ◌≤◌, length};
 ghost use Rattle.global_data.specs.GlobalData.{rows_of};
 ghost use Rattle.process.specs.Steps.{idle_of, has_decided, takes_part, open_round_of, start_of, keeps, receive_of};
@@ -14,7 +16,7 @@ use global_data::{GlobalData, fill_words};
 
 // Document 01's terminal. Sets are bits, process i at bit i from 0.
 #[repr(C)]
-#[derive(Drop)]
+#[derive(Clone, Copy)]
 pub struct Process {
     // 0 before its start
     pub round: u8,
@@ -34,7 +36,7 @@ pub struct Process {
 }
 
 // How a round ended (request C-11).
-#[derive(Drop)]
+#[derive(Clone, Copy)]
 pub enum Closing {
     // there was no close
     None,
@@ -47,7 +49,7 @@ pub enum Closing {
 }
 
 // What a close gives.
-#[derive(Drop)]
+#[derive(Clone, Copy)]
 pub struct Closed {
     pub process: Process,
     pub closing: Closing,

@@ -1,4 +1,6 @@
 // A record's 8 bytes, decoded: kind, a, b, r, then a value, low byte first; refusals 3, 4, 5 and 15.
+#![tactic(auto)]
+
 ghost use Rattle.std.specs.Prelude.{◌≡◌, true, not, ◌+◌, ◌-◌};
 ghost use Rattle.bench.specs.Record.{word_of, uses_b};
 ghost use Rattle.bench.specs.Record.{fields, message_from, event_of, parts_of, check_diet, decode_of};

@@ -1,5 +1,7 @@
 // Run, by value: a bench stepped by the records of a schedule. The call for one record is in `one_record`,
 // the forms that lend are in `host`.
+#![tactic(auto)]
+
 ghost use Rattle.std.specs.Prelude.{◌≡◌, ◌-◌, ◌<◌, ◌≤◌};
 ghost use Rattle.bench.specs.declared.Cause.TheVariants.{Refused as RefusedRun};
 ghost use Rattle.bench.specs.Refuse.{number_of};

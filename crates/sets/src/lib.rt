@@ -1,5 +1,7 @@
 // Sets of up to sixteen processes, as the bits of a number: bit i stands for process i,
 // counted from 0. And numbers from 1.
+#![tactic(auto)]
+
 ghost use Rattle.std.specs.Prelude.{◌≡◌, ◌<◌, ◌≤◌};
 ghost use Rattle.sets.specs.Truth.{one_to};
 ghost use Rattle.sets.specs.Set.{has, insert_of, remove_of, union_of, intersection_of};

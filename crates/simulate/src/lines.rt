@@ -9,7 +9,7 @@ use run::run_bytes;
 use text::line::put_line;
 
 // The bench after some records, and the end of their lines.
-#[derive(Drop)]
+#[derive(Clone, Copy)]
 pub struct Lined {
     pub bench: Bench,
     pub place: usize,

@@ -1,4 +1,6 @@
 // Runs a bench from standard input: the opening record, then a line for each record, then a line for each process.
+#![tactic(auto)]
+
 mod lines;
 mod opening;
 
@@ -14,7 +16,7 @@ use text::line::put_line;
 use text::processes::put_processes;
 
 // The bench after the records that were read, and how many bytes they are.
-#[derive(Drop)]
+#[derive(Clone, Copy)]
 struct Turn {
     bench: Bench,
     read: usize,

@@ -1,4 +1,6 @@
 // Refusal 2: whether a bench is damaged.
+#![tactic(auto)]
+
 ghost use Rattle.std.specs.Prelude.{◌≡◌, ◌≤◌};
 ghost use Rattle.sets.specs.Lists.{every_in};
 ghost use Rattle.sets.specs.Set.{within};

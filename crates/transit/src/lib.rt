@@ -1,5 +1,7 @@
 // The list in transit: each message sent and not arrived, as sender, receiver and round in three bytes; decisions have
 // round 0. By round, then by sender, then by receiver: one loop for each.
+#![tactic(auto)]
+
 ghost use Rattle.std.specs.Prelude.{◌≡◌, ℕ, ◌+◌, ◌*◌, ◌^◌, ◌≤◌, ◌<◌, length, get_or};
 ghost use Rattle.sets.specs.Lists.{joined};
 ghost use Rattle.bench.specs.TransitList.{message_bytes, list_of, listed_in};

@@ -1,0 +1,65 @@
+-- `numbered` is the numbering. The loop's invariant: the first i sites have their processes, and those of them that
+-- take part are stored.
+use mathlib.Core.Path.{◌≡◌, refl, sym, ◌∙◌, ap}
+use mathlib.Core.List.{List}
+use mathlib.Core.Logic.{⊎_elim}
+use Prim.Native.Nat.{ℕ, ◌-◌, ◌+◌}
+use native.Mathlib.Nat.{le_antisymm}
+use native.Mathlib.Numerals.{add-one}
+use native.Mathlib.Omega.{arith}
+use borrow.Author.Rules.{rules}
+use lib.ListN.{set, replicate, get_or-replicate}
+use Rattle.sets.specs.EachLaws.{each_done}
+use Rattle.sets.specs.Lists.{each, joined}
+use Rattle.calendar.specs.Calendar.{sites_to, how_many, numbering_of, process_of_site}
+use Rattle.calendar.specs.NumberingLaws.{in_set, many_zero, many_on, many_off}
+use Rattle.calendar.specs.NumberingLaws.{stored_on, stored_off, stored_all}
+use Rattle.calendar.specs.NumberingLaws.{numbers_on, numbers_off}
+use Rattle.calendar.proofs.numbered.Goals as goal
+
+abbrev zeros : List ℕ
+zeros = replicate 16 0
+
+pub loop-i-init : goal.loop-i-init
+unfolding each sites_to joined
+loop-i-init c = let e = many_zero (in_set c.args.set) in (search rules, search rules, sym e, refl, rw e)
+
+pub loop-i-preserved : goal.loop-i-preserved
+loop-i-preserved c =
+    let t = in_set c.args.set in
+    let l = c.loop-i in
+    let m = sym c.member.ensures in
+    let k = c.loop-i-test.true in
+    let next = ap (how_many t) (add-one l.i) in (
+      search rules,
+      ⊎_elim (λ w. omega (arith, w.3)) (λ w. omega (arith, w.3)) c.if-member.branch,
+      ⊎_elim (λ w. omega (arith, w.3, l.invariant.2, next, many_on t l.i (m ∙ w.0.taken)))
+          (λ w. omega (arith, w.3, l.invariant.2, next, many_off t l.i (m ∙ w.0.left))) c.if-member.branch,
+      ⊎_elim
+          (λ w.
+          let e : l.i + 1 - 1 ≡ l.i = omega arith in
+          let n : l.n + 1 ≡ how_many t (l.i + 1) =
+          omega (arith, l.invariant.2, next, many_on t l.i (m ∙ w.0.taken)) in
+          w.1 ∙ (λ j. set (l.invariant.3 j) (e j) (n j)) ∙ numbers_on t l.i zeros (m ∙ w.0.taken) k)
+          (λ w.
+          w.1 ∙ l.invariant.3
+          ∙ numbers_off t l.i zeros (m ∙ w.0.left) k (get_or-replicate {A = ℕ} 16 l.i 0 0 k)) c.if-member.branch,
+      ⊎_elim
+          (λ w.
+          w.2
+          ∙ rw (l.invariant.4, l.invariant.2)
+          (stored_on t l.i zeros (m ∙ w.0.taken) (omega (arith, l.invariant.2, l.invariant.1))))
+          (λ w. w.2 ∙ l.invariant.4 ∙ stored_off t l.i zeros (m ∙ w.0.left)) c.if-member.branch,
+    )
+
+pub returns : goal.returns
+unfolding numbering_of
+returns c =
+    let t = in_set c.args.set in
+    let l = c.loop-i in
+    let e = le_antisymm l.invariant.0 c.loop-i-test.false in
+    λ k. record {
+      n = (rw e at l.invariant.2) k;
+      process_of = ((rw e at l.invariant.3) ∙ each_done 16 (λ i. process_of_site t (i + 1)) zeros refl) k;
+      site_of = ((rw e at l.invariant.4) ∙ stored_all t) k;
+    }

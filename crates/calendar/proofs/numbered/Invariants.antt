@@ -1,0 +1,17 @@
+use mathlib.Core.Path.{◌≡◌}
+use Prim.Native.Nat.{◌≤◌, ◌-◌}
+use lib.ListN.{set}
+use Rattle.calendar.specs.Calendar.{how_many}
+use Rattle.calendar.specs.NumberingLaws.{in_set}
+use Rattle.calendar.specs.NumberingLaws.{stored_to}
+use Rattle.calendar.specs.NumberingLaws.{numbers_to}
+use Rattle.calendar.proofs.numbered.Given as goal
+
+abbrev pub invariant-loop-i : goal.invariant-loop-i
+invariant-loop-i l =
+    (l.i ≤ 16) × (l.n ≤ l.i) × (l.n ≡ how_many (in_set l.set) l.i)
+    × (l.process_of ≡ numbers_to (in_set l.set) l.i zeros) × (l.site_of ≡ stored_to (in_set l.set) l.i zeros)
+
+abbrev pub decreases-loop-i : goal.decreases-loop-i
+decreases-loop-i l =
+    16 - l.i

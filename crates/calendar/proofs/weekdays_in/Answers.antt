@@ -1,0 +1,15 @@
+-- The weekdays before the end of the record, without those before its beginning.
+use Rattle.calendar.specs.PassLaws.{weekdays}
+use Rattle.calendar.proofs.weekdays_in.Goals as goal
+
+pub returns : goal.returns
+returns c =
+    let a = c.args in
+    rw (
+      c.difference.ensures,
+      c.all.ensures,
+      c.all-2.ensures,
+      c.weekdays_before-until.ensures,
+      c.weekdays_before-from.ensures,
+    )
+    (weekdays a.monday a.p)

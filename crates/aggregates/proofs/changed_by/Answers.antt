@@ -8,7 +8,7 @@ use Rattle.aggregates.proofs.changed_by.Goals as goal
 pub returns-in-Value : goal.returns-in-Value
 returns-in-Value c =
     rw c.in-Value.is
-    (ap gives (to_z-of_z (sfits_of c.difference.type-inv) ∙ c.difference.ensures))
+    (ap gives (to_z-of_z (sfits_of c.difference.type_inv) ∙ c.difference.ensures))
 
 pub returns-in-Absent : goal.returns-in-Absent
 returns-in-Absent c = cc

@@ -1,7 +1,6 @@
 -- What `host_ran` makes of how the run ended is the run's number and progress (answers/specs/ReachedLaws).
 use Rattle.std.proofs.Common.{ap, ◌∙◌}
 use Rattle.answers.specs.declared.HostRan.{HostRan}
-use Rattle.answers.specs.declared.Reached.{Reached}
 use Rattle.answers.specs.Numbers.{host_ran_of}
 use Rattle.answers.specs.ReachedLaws.{run_number, run_progress}
 use Rattle.export_bench.proofs.gerzulan_bench_run.Goals as goal

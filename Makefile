@@ -34,7 +34,7 @@ library: $(LIBRARY)
 $(LIBRARY): crates.txt $(shell find crates -name out -prune -o \( -name '*.rt' -o -name '*.antt' \) -print)
 	@scripts/build $(EXPORTS)
 	@cd target/staticlib && rm -rf objects libgerzulan.a && for crate in $(EXPORTS); do \
-	mkdir -p objects/$$crate && (cd objects/$$crate && ar x ../../lib$$crate.a && for object in *; do mv "$$object" "../$$crate-$$object"; done) || exit 1; done && \
+	mkdir -p objects/$$crate && (cd objects/$$crate && ar x ../../lib$$crate.a && for object in *; do mv "$$object" "../$$crate$${object#$$crate}"; done) || exit 1; done && \
 	ar crs libgerzulan.a objects/*.o && rm -rf objects
 
 # The hosts in C, C++ and Rust: built, run and compared.

@@ -1,4 +1,5 @@
 // Runs the table on standard input: writes each line of it, and after one that names a call what the call answers.
+// The only errors are those of reading and writing: each is returned at once, up to `main`, and ends the program.
 #![tactic(auto)]
 
 mod calls;

@@ -1,4 +1,5 @@
 // Runs a bench from standard input: the opening record, then a line for each record, then a line for each process.
+// The only errors are those of reading and writing: each is returned at once, up to `main`, and ends the program.
 #![tactic(auto)]
 
 mod lines;

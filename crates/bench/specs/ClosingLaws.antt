@@ -67,8 +67,8 @@ by_other s k a b r v e = rw e (go (same k 1) (same k 2) (same k 3) (same k 5))
     go false false false true = refl
     go false false false false = refl
 
-by_kind : (s : Bench) (k a b r v : ℕ) → is_none (closing_at (event_of k a b r v) s) ≡ not (same k 4)
-by_kind s k a b r v = go (is (same k 4))
+by_kind_lem : (s : Bench) (k a b r v : ℕ) → is_none (closing_at (event_of k a b r v) s) ≡ not (same k 4)
+by_kind_lem s k a b r v = go (is (same k 4))
   where
     go : Is (same k 4) → is_none (closing_at (event_of k a b r v) s) ≡ not (same k 4)
     go (on e) = rw (same_on k 4 e) (by_close s a b r v)
@@ -100,7 +100,7 @@ module _ (s : Bench) (l : List ℕ) where
           let w = accepted s l (same_on _ 0 e) in
           let f = decode_from s.n s.t l w.event w.decoded in
           rw (closing_event w.event (same_on _ 0 e) w.decoded, f.event, and_on_l _ (same (get_or l 0 0) 4) e)
-          (by_kind s (get_or l 0 0) _ _ _ _)
+          (by_kind_lem s (get_or l 0 0) _ _ _ _)
       go (off e) =
           rw (closing_refused (same_not _ 0 e), and_off_l _ (same (get_or l 0 0) 4) e) none_is
 

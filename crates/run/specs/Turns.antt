@@ -2,7 +2,7 @@
 -- and each event's check and effect on the parts that it changes. A turn is one of the four laws of run;
 -- the rest is the definitions with their parts named.
 use Rattle.std.specs.Prelude.{◌≡◌, ◌≢◌, List, [], ◌∷◌, Bool, true, false, ℕ, zero, suc, ◌+◌, ◌-◌, ◌*◌, ◌/◌, ◌%◌, ◌≤◌, ◌<◌, length, get_or, set, drop}
-use Rattle.std.proofs.Math.Path.{refl, sym, ap}
+use Rattle.std.proofs.Math.Path.{refl, sym, ap, subst}
 use Rattle.std.proofs.Common.{◌∙◌, length-take, length-drop}
 use native.Mathlib.Omega.{arith}
 use Rattle.std.proofs.Math.ListN.{take}
@@ -417,7 +417,9 @@ module _ (c x : Closing) (s : Bench) (a r next seen : ℕ) (g : GlobalData) (ali
   closed = close_passed s.n s.t a rows (process_at s a) next seen g alike q x f (rw e at w) few k
 
   opened : has_decided after ≡ false → (after.round ≡ (process_at s a).round + 1) × ((process_at s a).round ≢ s.t + 1)
-  opened d = rw closed.0 (close_opens s.n s.t a rows (process_at s a) (rw closed.0 at d))
+  opened d =
+      subst (λ (p : Process). (p.round ≡ (process_at s a).round + 1) × ((process_at s a).round ≢ s.t + 1)) (sym closed.0)
+      (close_opens s.n s.t a rows (process_at s a) (subst (λ (p : Process). has_decided p ≡ false) closed.0 d))
 
   pub closes : Closes c x s a after
   unfolding effect closes_as closing_at

@@ -64,19 +64,19 @@ step_from (CrashOf a) n t s s' S = crashes S
 step_from (SuspectOf a b) n t s s' S = suspects S
 
 module _ (s : Bench) (c : ℕ → Bool) (Z : Sized s) (K : Bounds s) (B : Basic s.n s.t (view_of s c)) where
-  step_of : (e : Event) → InRange s.n s.t e → refuses e s ≡ 0
+  step_of_event : (e : Event) → InRange s.n s.t e → refuses e s ≡ 0
       → StepOf e s.n s.t (view_of s c) (view_of (effect e s) (closers_of e s c))
   unfolding StepOf InRange MessageIn closers_of
-  step_of (StartOf a v) r z = start_step s c Z K a v r z
-  step_of (SendOf a b) r z = send_step s c Z K a b r.first r.second r.differ z
-  step_of (ArriveOf a b (Estimate m)) r z =
+  step_of_event (StartOf a v) r z = start_step s c Z K a v r z
+  step_of_event (SendOf a b) r z = send_step s c Z K a b r.first r.second r.differ z
+  step_of_event (ArriveOf a b (Estimate m)) r z =
       arrive_estimate_step s c Z K a m b r.0.first r.0.second r.0.differ r.1.0
       (omega (arith, r.1.1)) z
-  step_of (ArriveOf a b Decision) r z =
+  step_of_event (ArriveOf a b Decision) r z =
       arrive_decision_step s c Z K a b r.0.first r.0.second r.0.differ B z
-  step_of (CloseOf a) r z = close_step s c Z K B a r z
-  step_of (CrashOf a) r z = crash_step s c Z K a r z
-  step_of (SuspectOf a b) r z = suspect_step s c Z K a b r.first r.second r.differ z
+  step_of_event (CloseOf a) r z = close_step s c Z K B a r z
+  step_of_event (CrashOf a) r z = crash_step s c Z K a r z
+  step_of_event (SuspectOf a b) r z = suspect_step s c Z K a b r.first r.second r.differ z
 
 -- an event leaves the closers as they are, but for a close that decides
 pub closers_tie : (e : Event) (s : Bench) (c : ℕ → Bool) (x : ℕ)
@@ -102,7 +102,7 @@ closers_tie (SuspectOf a b) s c x = inl refl
 pub event_is : (s : Bench) (c : ℕ → Bool) (e : Event) → Sized s → sound_of s ≡ true → InRange s.n s.t e
     → Basic s.n s.t (view_of s c)
     → refuses e s ≡ 0 → StepOf e s.n s.t (view_of s c) (view_of (effect e s) (closers_of e s c))
-event_is s c e Z h r B z = step_of s c Z (sound_on s h) B e r z
+event_is s c e Z h r B z = step_of_event s c Z (sound_on s h) B e r z
 
 pub event_step : (s : Bench) (c : ℕ → Bool) (e : Event) → Sized s → sound_of s ≡ true → InRange s.n s.t e
     → Basic s.n s.t (view_of s c)

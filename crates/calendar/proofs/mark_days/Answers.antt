@@ -23,7 +23,7 @@ returns-then-not-well_formed c =
     let l = c.loop-j in
     let e = ap well_formed (sym c.period_at-p.ensures) ∙ sym c.well_formed-in-loop-j.ensures
     ∙ c.if-not-well_formed.true in
-    (sym (every_off _ _ l.j c.loop-j-test.true e), λ h. absurd (true≢false (sym h)))
+    record { valid_value = sym (every_off _ _ l.j c.loop-j-test.true e); marked = λ h. absurd (true≢false (sym h)) }
 
 pub slot_of-slot-requires : goal.slot_of-slot-requires
 slot_of-slot-requires c = sym c.well_formed-in-loop-j.ensures ∙ c.if-not-well_formed.false
@@ -46,4 +46,4 @@ pub returns : goal.returns
 unfolding periods_in
 returns c =
     let e = le_antisymm c.loop-j.invariant.0 c.loop-j-test.false in
-    (sym (rw e at c.loop-j.invariant.1), λ h. rw e at c.loop-j.invariant.2)
+    record { valid_value = sym (rw e at c.loop-j.invariant.1); marked = λ h. rw e at c.loop-j.invariant.2 }

@@ -15,10 +15,9 @@ use Rattle.calendar.specs.Calendar.{sites_to, how_many, numbering_of, process_of
 use Rattle.calendar.specs.NumberingLaws.{in_set, many_zero, many_on, many_off}
 use Rattle.calendar.specs.NumberingLaws.{stored_on, stored_off, stored_all}
 use Rattle.calendar.specs.NumberingLaws.{numbers_on, numbers_off}
+use Rattle.calendar.proofs.numbered.Invariants.{zeros}
+use Rattle.calendar.proofs.numbered.Goals.{then-member, else-member}
 use Rattle.calendar.proofs.numbered.Goals as goal
-
-abbrev zeros : List ℕ
-zeros = replicate 16 0
 
 pub loop-i-init : goal.loop-i-init
 unfolding each sites_to joined
@@ -32,24 +31,28 @@ loop-i-preserved c =
     let k = c.loop-i-test.true in
     let next = ap (how_many t) (add-one l.i) in (
       search rules,
-      ⊎_elim (λ w. omega (arith, w.3)) (λ w. omega (arith, w.3)) c.if-member.branch,
-      ⊎_elim (λ w. omega (arith, w.3, l.invariant.2, next, many_on t l.i (m ∙ w.0.taken)))
-          (λ w. omega (arith, w.3, l.invariant.2, next, many_off t l.i (m ∙ w.0.left))) c.if-member.branch,
-      ⊎_elim
-          (λ w.
-          let e : l.i + 1 - 1 ≡ l.i = omega arith in
-          let n : l.n + 1 ≡ how_many t (l.i + 1) =
-          omega (arith, l.invariant.2, next, many_on t l.i (m ∙ w.0.taken)) in
-          w.1 ∙ (λ j. set (l.invariant.3 j) (e j) (n j)) ∙ numbers_on t l.i zeros (m ∙ w.0.taken) k)
-          (λ w.
-          w.1 ∙ l.invariant.3
-          ∙ numbers_off t l.i zeros (m ∙ w.0.left) k (get_or-replicate {A = ℕ} 16 l.i 0 0 k)) c.if-member.branch,
-      ⊎_elim
-          (λ w.
-          w.2
-          ∙ rw (l.invariant.4, l.invariant.2)
-          (stored_on t l.i zeros (m ∙ w.0.taken) (omega (arith, l.invariant.2, l.invariant.1))))
-          (λ w. w.2 ∙ l.invariant.4 ∙ stored_off t l.i zeros (m ∙ w.0.left)) c.if-member.branch,
+      elim c.if-member.branch [ then-member w ↦ omega (arith, w.n-is) | else-member w ↦ omega (arith, w.n-is) ],
+      elim c.if-member.branch [
+        | then-member w ↦ omega (arith, w.n-is, l.invariant.2, next, many_on t l.i (m ∙ w.if-member.true))
+        | else-member w ↦ omega (arith, w.n-is, l.invariant.2, next, many_off t l.i (m ∙ w.if-member.false))
+      ],
+      elim c.if-member.branch [
+        | then-member w ↦
+            let e : l.i + 1 - 1 ≡ l.i = omega arith in
+            let n : l.n + 1 ≡ how_many t (l.i + 1) =
+            omega (arith, l.invariant.2, next, many_on t l.i (m ∙ w.if-member.true)) in
+            w.process_of-is ∙ (λ j. set (l.invariant.3 j) (e j) (n j)) ∙ numbers_on t l.i zeros (m ∙ w.if-member.true) k
+        | else-member w ↦
+            w.process_of-is ∙ l.invariant.3
+            ∙ numbers_off t l.i zeros (m ∙ w.if-member.false) k (get_or-replicate {A = ℕ} 16 l.i 0 0 k)
+      ],
+      elim c.if-member.branch [
+        | then-member w ↦
+            w.site_of-is
+            ∙ rw (l.invariant.4, l.invariant.2)
+            (stored_on t l.i zeros (m ∙ w.if-member.true) (omega (arith, l.invariant.2, l.invariant.1)))
+        | else-member w ↦ w.site_of-is ∙ l.invariant.4 ∙ stored_off t l.i zeros (m ∙ w.if-member.false)
+      ],
     )
 
 pub returns : goal.returns

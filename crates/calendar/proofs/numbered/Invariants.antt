@@ -1,11 +1,15 @@
 use mathlib.Core.Path.{◌≡◌}
-use Prim.Native.Nat.{◌≤◌, ◌-◌}
-use lib.ListN.{set}
+use Prim.Native.Nat.{ℕ, ◌≤◌, ◌-◌}
+use mathlib.Core.List.{List}
+use lib.ListN.{replicate}
 use Rattle.calendar.specs.Calendar.{how_many}
 use Rattle.calendar.specs.NumberingLaws.{in_set}
 use Rattle.calendar.specs.NumberingLaws.{stored_to}
 use Rattle.calendar.specs.NumberingLaws.{numbers_to}
 use Rattle.calendar.proofs.numbered.Given as goal
+
+abbrev pub zeros : List ℕ
+zeros = replicate 16 0
 
 abbrev pub invariant-loop-i : goal.invariant-loop-i
 invariant-loop-i l =

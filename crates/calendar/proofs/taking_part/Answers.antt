@@ -7,6 +7,7 @@ use native.Mathlib.Nat.{le_antisymm}
 use borrow.Author.Rules.{rules}
 use Rattle.sets.specs.TruthLaws.{same_mk, same_off}
 use Rattle.calendar.specs.PassLaws.{collect_none, collect_on, collect_off, some_day}
+use Rattle.calendar.proofs.taking_part.Goals.{then-difference-ne0, else-difference-ne0}
 use Rattle.calendar.proofs.taking_part.Goals as goal
 
 pub loop-i-init : goal.loop-i-init
@@ -19,11 +20,14 @@ loop-i-preserved c =
     let l = c.loop-i in
     let d = c.difference.ensures in (
       search rules,
-      ⊎_elim
-          (λ w. rw (w.2 ∙ w.1.ensures)
-          (collect_on q l.i l.set l.invariant.1 (ap not (same_off _ 0 (λ e. w.0.taken (d ∙ e))))))
-          (λ w. rw w.1 (collect_off q l.i l.set l.invariant.1 (ap not (same_mk _ 0 (sym d ∙ w.0.left)))))
-          c.if-difference-ne0.branch,
+      elim c.if-difference-ne0.branch [
+        | then-difference-ne0 w ↦
+            rw (w.set-is ∙ w.insert-set.ensures)
+            (collect_on q l.i l.set l.invariant.1 (ap not (same_off _ 0 (λ e. w.if-difference-ne0.true (d ∙ e)))))
+        | else-difference-ne0 w ↦
+            rw w.set-is
+            (collect_off q l.i l.set l.invariant.1 (ap not (same_mk _ 0 (sym d ∙ w.if-difference-ne0.false))))
+      ],
     )
 
 pub returns : goal.returns

@@ -1,6 +1,6 @@
 -- `week` answers as the definition does: check by check, by what the pass has marked.
 use mathlib.Core.Path.{sym, ◌∙◌, ap}
-use Rattle.sets.specs.TruthLaws.{same_mk, same_off}
+use Rattle.sets.specs.TruthLaws.{same_mk, same_off, not_on, not_off}
 use Rattle.calendar.specs.Calendar.{answered_by}
 use Rattle.calendar.specs.NumberingLaws.{in_set_lem, numbering_cong}
 use Rattle.calendar.specs.PassLaws.{part_in, nobody, somebody}
@@ -17,12 +17,12 @@ returns-then-not-marks c =
     let a = c.args in
     c.refused-then-not-marks.ensures
     ∙ sym (record_13 a.calendar.now a.week (same_mk _ 0 c.if-calendar-ne0.false)
-    (sym c.mark_days-marks.ensures.valid_value ∙ c.if-not-marks.true))
+    (sym c.mark_days-marks.ensures.valid_value ∙ not_on _ c.if-not-marks.true))
 
 pub returns-then-set-eq0 : goal.returns-then-set-eq0
 returns-then-set-eq0 c =
     let a = c.args in
-    let v = c.if-not-marks.false in
+    let v = not_off _ c.if-not-marks.false in
     let whole = same_mk _ 0 c.if-calendar-ne0.false in
     c.refused-then-set-eq0.ensures
     ∙ sym (nobody_14 a.calendar.now a.week whole (sym c.mark_days-marks.ensures.valid_value ∙ v)
@@ -33,7 +33,7 @@ pub returns : goal.returns
 unfolding answered_by
 returns c =
     let a = c.args in
-    let v = c.if-not-marks.false in
+    let v = not_off _ c.if-not-marks.false in
     let whole = same_mk _ 0 c.if-calendar-ne0.false in
     let t = c.taking_part-set.ensures in
     let marked = c.mark_days-marks.ensures.marked v in

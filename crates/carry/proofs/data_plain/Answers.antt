@@ -14,10 +14,6 @@ use Rattle.global_data.specs.declared.GlobalData.{GlobalData}
 use Rattle.bench.specs.Carry.{plain_data}
 use Rattle.carry.proofs.data_plain.Goals as goal
 
--- the test of entry k
-abbrev plain_at : GlobalData → ℕ → Bool
-plain_at g k = select (has g.present k) (less (get_or g.values k 0) 65536) true
-
 pub loop-k-init : goal.loop-k-init
 unfolding every
 loop-k-init c = (search rules, refl)

@@ -19,7 +19,7 @@ returns-then-not-is_sound c =
     let r = show_refused a.b a.process a.out.now 1
     (show_damaged a.b a.process a.out.now
     (sym c.is_sound.ensures ∙ c.if-not-is_sound.true)) in
-    (sym r.0, sym r.1)
+    record { value = sym r.0; out_after = sym r.1 }
 
 -- what each check that passed says
 sound : (c : Else-not-is_sound) → sound_of c.args.b ≡ true
@@ -40,8 +40,8 @@ from_one n x e = (less_on 0 x (and_first _ _ e), less_on x (n + 1) (and_second _
 placed : (c : Else-out-n)
     → let x = c.args.process in (0 < x) × (x < 17)
 placed c =
-    let r = from_one _ _ (known (goal.at.placed c).Else-not-one_to) in
-    (r.0, omega (arith, r.1, top (goal.at.placed c).Else-not-is_sound))
+    let r = from_one _ _ (known (goal.at.Else-out-n c).Else-not-one_to) in
+    (r.0, omega (arith, r.1, top (goal.at.Else-out-n c).Else-not-is_sound))
 
 pub returns-then-not-one_to : goal.returns-then-not-one_to
 returns-then-not-one_to c =
@@ -49,7 +49,7 @@ returns-then-not-one_to c =
     let r = show_refused a.b a.process a.out.now 4
     (show_unknown a.b a.process a.out.now (sound (goal.at.returns-then-not-one_to c).Else-not-is_sound)
     (sym c.one_to.ensures ∙ c.if-not-one_to.true)) in
-    (sym r.0, sym r.1)
+    record { value = sym r.0; out_after = sym r.1 }
 
 pub returns-then-out-n : goal.returns-then-out-n
 returns-then-out-n c =
@@ -57,7 +57,7 @@ returns-then-out-n c =
     let r = show_refused a.b a.process a.out.now 9
     (show_short a.b a.process a.out.now (sound (goal.at.returns-then-out-n c).Else-not-is_sound) (known (goal.at.returns-then-out-n c).Else-not-one_to)
     c.if-out-n.true) in
-    (sym r.0, sym r.1)
+    record { value = sym r.0; out_after = sym r.1 }
 
 pub returns-then-not-has_decided : goal.returns-then-not-has_decided
 unfolding process_at
@@ -67,7 +67,7 @@ returns-then-not-has_decided c =
     (show_undecided a.b a.process a.out.now (sound (goal.at.returns-then-not-has_decided c).Else-not-is_sound)
     (known (goal.at.returns-then-not-has_decided c).Else-not-one_to) c.if-out-n.false
     (sym c.has_decided.ensures ∙ c.if-not-has_decided.true)) in
-    (sym r.0, sym r.1)
+    record { value = sym r.0; out_after = sym r.1 }
 
 pub put_entries-requires : goal.put_entries-requires
 put_entries-requires c =
@@ -81,7 +81,7 @@ returns c =
     (show_decided a.b a.process a.out.now (sound (goal.at.returns c).Else-not-is_sound)
     (known (goal.at.returns c).Else-not-one_to) c.if-out-n.false
     (sym c.has_decided.ensures ∙ c.if-not-has_decided.false)) in
-    (sym r.0, c.put_entries.ensures ∙ sym r.1)
+    record { value = sym r.0; out_after = c.put_entries.ensures ∙ sym r.1 }
 
 pub overflow_sub-at : goal.overflow_sub-at
 overflow_sub-at c = omega (arith, placed c)

@@ -37,15 +37,15 @@ use Rattle.run.specs.Turns.{refuses_suspect, effect_start, effect_crash, effect_
 use Rattle.run.specs.Turns.{effect_receive, effect_adopt, row_at, marked, opened_marked, Closes}
 use Rattle.run.specs.Turns.{closes}
 use Rattle.run.specs.Turns.{kept_start, kept_send, kept_arrive, kept_crash, kept_suspect}
-use Rattle.run.proofs.run_bytes.Goals.{After-decode, After-finish-c, After-loop-k, After-message, After-message_check-k-in-Arrive, After-number, After-remove-left, After-round_index-opened, After-round_index-r, After-round_index-r-in-Close, Else-k-ne0-4, Else-not-parts_sound, In-Arrive, In-Close, In-Crash, In-Got, In-Send, In-Start, In-Suspect, In-loop-left}
+use Rattle.run.proofs.run_bytes.Goals.{After-decode, After-finish-c, After-loop-k, After-message, After-message_check-k-in-Arrive, After-number, After-round_index-opened, After-round_index-r, After-round_index-r-in-Close, Else-k-ne0-4, Else-not-parts_sound, In-Arrive, In-Close, In-Crash, In-Got, In-Send, In-Start, In-Suspect, In-loop-left}
+use Rattle.run.proofs.run_bytes.Goals.{then-left-eq1+then-alike, then-left-eq1+else-alike, else-left-eq1}
 use Rattle.run.proofs.run_bytes.Goals as goal
 
 -- ---- a turn, once its record is decoded to d
-abbrev TurnAt : tie.After-decode invariant-loop decreases-loop invariant-loop3 decreases-loop3 invariant-loop2 decreases-loop2 → Decoded → Type 0
+abbrev TurnAt : After-decode → Decoded → Type 0
 TurnAt c d =
-    let m = c.before.before.before.before.before.loop2 in
-    let a = c.before.before.before.before.before.before.before.before.before.before.before.before.before.before.args in
-    Turn a.budget a.schedule.now a.bench m.s m.at m.accepted m.closing d
+    let m = c.loop-at in
+    Turn c.args.budget c.args.schedule.now c.args.bench m.s m.at m.accepted m.closing d
 
 turn : (c : After-decode) → TurnAt c c.decode.result
 turn c =
@@ -58,59 +58,50 @@ turn c =
 
 -- to the event e
 event : (c : In-Got) (e : Event)
-    → c.in-Got.e ≡ e → TurnAt (goal.at.event c).After-decode (Got e)
-event c e p = rw (c.in-Got.is, p) at (turn (goal.at.event c).After-decode)
+    → c.in-Got.e ≡ e → TurnAt (goal.at.In-Got c).After-decode (Got e)
+event c e p = rw (c.in-Got.is, p) at (turn (goal.at.In-Got c).After-decode)
 
 -- ---- indices in each arm: what its event names is low, and so is where the code looks
 low-start : (c : In-Start)
     → c.in-Start.a < 16
 unfolding Low
-low-start c = turn_low (event (goal.at.low-start c).In-Got _ c.in-Start.is) _ refl
+low-start c = turn_low (event (goal.at.In-Start c).In-Got _ c.in-Start.is) _ refl
 
 -- a's row of the round that it opens
 start-slot : (c : After-round_index-r)
     → c.in-Start.a * 16 + c.round_index-r.result < 256
 start-slot c =
-    slot_low _ _ (low-start (goal.at.start-slot c).In-Start) c.round_index-r.ensures.1
+    slot_low _ _ (low-start (goal.at.After-round_index-r c).In-Start) c.round_index-r.ensures.1
 
 low-send : (c : In-Send)
     → (c.in-Send.a < 16) × (c.in-Send.b < 16)
 unfolding Low
-low-send c = turn_low (event (goal.at.low-send c).In-Got _ c.in-Send.is) _ refl
+low-send c = turn_low (event (goal.at.In-Send c).In-Got _ c.in-Send.is) _ refl
 
 -- message r of a is at a * 17 + r
 send-index : (c : After-message)
     → c.in-Send.a * 17 + c.message.result < 272
 send-index c =
-    word_low _ _ _ (low-send (goal.at.send-index c).In-Send).0 c.message.ensures
+    word_low _ _ _ (low-send (goal.at.After-message c).In-Send).0 c.message.ensures
     (message_low _ (turn_last (turn
-    (goal.at.send-index c).After-decode) _))
+    (goal.at.After-message c).After-decode) _))
 
 low-arrive : (c : In-Arrive)
     → (c.in-Arrive.a < 16) × (c.in-Arrive.b < 16) × MessageIn 15
     c.in-Arrive.m
 unfolding Low
-low-arrive c = turn_low (event (goal.at.low-arrive c).In-Got _ c.in-Arrive.is) _ refl
+low-arrive c = turn_low (event (goal.at.In-Arrive c).In-Got _ c.in-Arrive.is) _ refl
 
 arrive-index : (c : After-number)
     → c.in-Arrive.a * 17 + c.number.result < 272
 arrive-index c =
-    let h = low-arrive (goal.at.arrive-index c).In-Arrive in
+    let h = low-arrive (goal.at.After-number c).In-Arrive in
     word_low _ _ _ h.0 c.number.ensures (number_low _ h.2)
 
 low-close : (c : In-Close)
     → c.in-Close.a < 16
 unfolding Low
-low-close c = turn_low (event (goal.at.low-close c).In-Got _ c.in-Close.is) _ refl
-
--- the places of a close: from its pass back to where its round is known, and from its end
-abbrev round_of : tie.After-remove2 invariant-loop decreases-loop invariant-loop3 decreases-loop3 invariant-loop2 decreases-loop2
-    → tie.After-round-index2 invariant-loop decreases-loop invariant-loop3 decreases-loop3 invariant-loop2 decreases-loop2
-round_of c = c.before.before.before
-
-abbrev closed_at : tie.After-finish invariant-loop decreases-loop invariant-loop3 decreases-loop3 invariant-loop2 decreases-loop2
-    → tie.After-round-index2 invariant-loop decreases-loop invariant-loop3 decreases-loop3 invariant-loop2 decreases-loop2
-closed_at c = round_of c.before.before.before
+low-close c = turn_low (event (goal.at.In-Close c).In-Got _ c.in-Close.is) _ refl
 
 -- the row that the pass has come to, in the round of the close
 row-slot : (c : In-loop-left) → c.loop-left.i < 256
@@ -118,22 +109,18 @@ row-slot c =
     let v = c.loop-left.invariant in
     omega (arith, passing_lt _ _ _ _ _ _ _ _ v.1 c.loop-left-test.true)
 
-close-slot : (c : After-round_index-opened)
-    → (closed_at (goal.at.close-slot c).After-finish-c).before.before.before.before.before.e5.given.0.0 * 16
-    + c.round_index-opened.result < 256
-close-slot c =
-    slot_low _ _ (low-close (closed_at (goal.at.close-slot c).After-finish-c).before.before.before.before)
-    c.round_index-opened.ensures.1
+close-slot : (c : After-round_index-opened) → c.in-Close.a * 16 + c.round_index-opened.result < 256
+close-slot c = slot_low _ _ (low-close (goal.at.After-round_index-opened c).In-Close) c.round_index-opened.ensures.1
 
 low-crash : (c : In-Crash)
     → c.in-Crash.a < 16
 unfolding Low
-low-crash c = turn_low (event (goal.at.low-crash c).In-Got _ c.in-Crash.is) _ refl
+low-crash c = turn_low (event (goal.at.In-Crash c).In-Got _ c.in-Crash.is) _ refl
 
 low-suspect : (c : In-Suspect)
     → (c.in-Suspect.a < 16) × (c.in-Suspect.b < 16)
 unfolding Low
-low-suspect c = turn_low (event (goal.at.low-suspect c).In-Got _ c.in-Suspect.is) _ refl
+low-suspect c = turn_low (event (goal.at.In-Suspect c).In-Got _ c.in-Suspect.is) _ refl
 
 -- the check of an arrival looks at that word
 number-check : (c : After-message_check-k-in-Arrive)
@@ -152,15 +139,14 @@ close_round : (c : Else-k-ne0-4)
     c.loop-at.s.processes c.in-Close.a no_process).round ≤ 16)
 close_round c = (
   close_started _ _ _ (sym c.close_check-k.ensures ∙ c.if-k-ne0-4.false),
-  turn_last (turn (goal.at.close_round c).After-decode) _,
+  turn_last (turn (goal.at.Else-k-ne0-4 c).After-decode) _,
 )
 
 -- ---- the bench is tested: all but the rows, then the rows one by one
 pub returns-then-not-parts_sound : goal.returns-then-not-parts_sound
 returns-then-not-parts_sound c =
     let p = c.parts_sound in
-    c.turned_away.ensures ∙ (sym (run_damaged _ _ _ (sound_off _ (sym p.ensures ∙ not_on p.result
-    c.if-not-parts_sound.true))))
+    c.turned_away.ensures ∙ (sym (run_damaged _ _ _ (sound_off _ (sym p.ensures ∙ c.if-not-parts_sound.true))))
 
 -- all but the rows is sound
 parts : (c : Else-not-parts_sound)
@@ -175,7 +161,7 @@ parts c = sym c.parts_sound.ensures ∙ c.if-not-parts_sound.false
 sent-long : (c : Else-not-parts_sound)
     → length c.args.bench.sent ≡ 256
 sent-long c =
-    sym (length-map c.args.bench.sent (row.the_field).into) ∙ c.well-formed.0.1.1.1.1.1.1.0.1.0.1
+    search rules
 
 pub set_within-rows-requires : goal.set_within-rows-requires
 set_within-rows-requires c = parts_small _ _ _ _ _ (parts (goal.at.set_within-rows-requires c).Else-not-parts_sound)
@@ -197,13 +183,12 @@ loop-k-preserved c =
 rows_seen : (c : After-loop-k)
     → sound_of c.args.bench ≡ c.loop-k.rows
 rows_seen c =
-    sound_rows _ (parts (goal.at.rows_seen c).Else-not-parts_sound) ∙ sym (tested_all (sound_data _) _ c.loop-k.k
-    c.loop-k.rows (omega (arith, sent-long (goal.at.rows_seen c).Else-not-parts_sound)) c.loop-k.invariant.1)
+    sound_rows _ (parts (goal.at.After-loop-k c).Else-not-parts_sound) ∙ sym (tested_all (sound_data _) _ c.loop-k.k
+    c.loop-k.rows (omega (arith, sent-long (goal.at.After-loop-k c).Else-not-parts_sound)) c.loop-k.invariant.1)
 
 pub returns-then-not-rows : goal.returns-then-not-rows
 returns-then-not-rows c =
-    c.turned_away-then-not-rows.ensures ∙ (sym (run_damaged _ _ _ (rows_seen (goal.at.returns-then-not-rows c).After-loop-k ∙ not_on _
-    c.if-not-rows.true)))
+    c.turned_away-then-not-rows.ensures ∙ (sym (run_damaged _ _ _ (rows_seen (goal.at.returns-then-not-rows c).After-loop-k ∙ c.if-not-rows.true)))
 
 -- ---- before the event is known
 pub loop-at-init : goal.loop-at-init
@@ -234,7 +219,7 @@ returns-in-Refused c =
 pub start-q-requires : goal.start-q-requires
 start-q-requires c =
     let w = turn (goal.at.start-q-requires c).After-decode in
-    ((turn_sizes w).0, low-start (goal.at.start-q-requires c).In-Start)
+    record { n_bound = (turn_sizes w).0; a_bound = low-start (goal.at.start-q-requires c).In-Start }
 
 pub round_index-r-requires : goal.round_index-r-requires
 round_index-r-requires c =
@@ -267,7 +252,7 @@ pub receive-requires : goal.receive-requires
 unfolding MessageIn
 receive-requires c =
     let h = low-arrive (goal.at.receive-requires c).In-Arrive in
-    (h.0, rw c.in-Estimate.is at h.2)
+    record { y_bound = h.0; le_r = rw c.in-Estimate.is at h.2 }
 
 pub loop-at-preserved-in-Estimate : goal.loop-at-preserved-in-Estimate
 unfolding process_at transit_at
@@ -286,7 +271,7 @@ pub adopt-requires : goal.adopt-requires
 adopt-requires c =
     let h = low-arrive (goal.at.adopt-requires c).In-Arrive in
     let w = turn (goal.at.adopt-requires c).After-decode in
-    ((turn_sizes w).0, (h.1, h.0))
+    record { n_bound = (turn_sizes w).0; a_bound = (h.1, h.0) }
 
 pub loop-at-preserved-in-Decision : goal.loop-at-preserved-in-Decision
 unfolding process_at transit_at
@@ -306,18 +291,18 @@ loop-at-preserved-in-Decision c =
 -- ---- close: the rows of the round are passed over, then the process and perhaps its next row stored
 pub close_check-k-requires : goal.close_check-k-requires
 close_check-k-requires c =
-    (low-close (goal.at.close_check-k-requires c).In-Close, turn_last (turn (goal.at.close_check-k-requires c).After-decode) _)
+    record { a_bound = low-close (goal.at.close_check-k-requires c).In-Close; round_bound = turn_last (turn (goal.at.close_check-k-requires c).After-decode) _ }
 
 -- the sizes and indices of a close
 close-sizes : (c : After-round_index-r-in-Close)
     → let s = c.loop-at.s in
     (s.n ≤ 16) × (s.t < 16)
-close-sizes c = turn_sizes (turn (goal.at.close-sizes c).After-decode)
+close-sizes c = turn_sizes (turn (goal.at.After-round_index-r-in-Close c).After-decode)
 
 -- ---- its pass
 pub loop-left-init : goal.loop-left-init
 loop-left-init c =
-    let r = (round_of c).round-index2 in
+    let r = c.round_index-r-in-Close in
     let z : r.result / 16 ≡ 0 = omega (arith, r.ensures.1) in
     (omega (arith, r.ensures.1), rw z (passing_new _ _ _ _ _ (search rules) c.remove-left.ensures))
 
@@ -335,79 +320,72 @@ loop-left-preserved c =
     let l = c.loop-left in
     let v = l.invariant.1 in
     let z = c.loop-left-test.true in
-    let s = (round_of (goal.at.loop-left-preserved c).After-remove-left).before.before.before.before.before.before.before.before.before.before.before.before.before.before.before.loop2.s in
-    let e = row_at s.sent (round_of (goal.at.loop-left-preserved c).After-remove-left).round-index2.result l.i l.invariant.0 in
+    let s = c.loop-at.s in
+    let e = row_at s.sent c.round_index-r-in-Close.result l.i l.invariant.0 in
     let next : (l.i + 16) / 16 ≡ l.i / 16 + 1 = omega arith in (
       omega (arith, l.invariant.0),
       rw next
-          (⊎_elim
-          (λ w.
-          passing_more _ _ _ _ _ _ _ _ v z w.0.taken _ _
-          (ap₂ marked w.7 w.6 ∙ sym w.3.ensures ∙ ap (fill_of _) e)
-          (w.8 ∙ w.5.ensures ∙ ap (λ f. same_to s.n f c.old_estimate-old.result) e
-          ∙ sym (and_on_r _ _ w.4.taken)))
-          (⊎_elim
-          (λ w.
-          passing_more _ _ _ _ _ _ _ _ v z w.0.taken _ _
-          (ap₂ marked w.6 w.5 ∙ sym w.3.ensures ∙ ap (fill_of _) e)
-          (w.7 ∙ w.4.left ∙ sym (and_off_r _ _ w.4.left)))
-          (λ w. rw (w.1, w.2, w.3) (passing_skip _ _ _ _ _ _ _ _ v z w.0.left))) c.if-left-eq1.branch),
+          (elim c.if-left-eq1.branch [
+            | then-left-eq1+then-alike w ↦
+                passing_more _ _ _ _ _ _ _ _ v z w.if-left-eq1.true _ _
+                (ap₂ marked w.marks-is w.g-is ∙ sym w.fill_words-marks.ensures ∙ ap (fill_of _) e)
+                (w.alike-is ∙ w.same-alike.ensures ∙ ap (λ f. same_to s.n f c.old_estimate-old.result) e
+                ∙ sym (and_on_r _ _ w.if-alike.true))
+            | then-left-eq1+else-alike w ↦
+                passing_more _ _ _ _ _ _ _ _ v z w.if-left-eq1.true _ _
+                (ap₂ marked w.marks-is w.g-is ∙ sym w.fill_words-marks.ensures ∙ ap (fill_of _) e)
+                (w.alike-is ∙ w.if-alike.false ∙ sym (and_off_r _ _ w.if-alike.false))
+            | else-left-eq1 w ↦
+                rw (w.g-is, w.marks-is, w.alike-is) (passing_skip _ _ _ _ _ _ _ _ v z w.if-left-eq1.false)
+          ]),
     )
 
 -- ---- its end
 pub finish-c-requires : goal.finish-c-requires
 finish-c-requires c =
-    let r = round_of (goal.at.finish-c-requires c).After-remove-left in
-    let z = close-sizes r in
-    ((z.0, omega arith), (low-close r.before.before.before.before, omega (arith, (close_round r.before).1)))
+    let z = close-sizes (goal.at.finish-c-requires c).After-round_index-r-in-Close in
+    record {
+      n_bound = (z.0, omega arith);
+      a_bound = low-close (goal.at.finish-c-requires c).In-Close;
+      round_bound = omega (arith, (close_round (goal.at.finish-c-requires c).Else-k-ne0-4).1);
+    }
 
 -- what it comes to
 closed : (c : After-finish-c)
-    → let r = closed_at c in
-    let m = r.before.before.before.before.before.before.before.before.before.before.before.before.before.before.before.loop2 in
-    Closes m.closing c.finish-c.result.closing m.s
-    r.before.before.before.before.before.e5.given.0.0
-    (with_estimate (marked c.loop-left.marks c.loop-left.g)
-    c.finish-c.result.process)
+    → Closes c.loop-at.closing c.finish-c.result.closing c.loop-at.s c.in-Close.a
+    (with_estimate (marked c.loop-left.marks c.loop-left.g) c.finish-c.result.process)
 unfolding process_at
 closed c =
     let l = c.loop-left in
     let z : l.left ≡ 0 = search rules in
-    closes _ _ _ _ _ _ _ _ _ _ (round_of (goal.at.closed c).After-remove-left).round-index2.ensures.0 c.next-next.ensures
-    (rw (z, c.old_estimate-old.ensures.0) at l.invariant.1) (close-sizes (round_of (goal.at.closed c).After-remove-left)).0 c.finish-c.ensures
+    closes _ _ _ _ _ _ _ _ _ _ c.round_index-r-in-Close.ensures.0 c.next-next.ensures
+    (rw (z, c.old_estimate-old.ensures.0) at l.invariant.1)
+    (close-sizes (goal.at.After-finish-c c).After-round_index-r-in-Close).0 c.finish-c.ensures
 
 pub loop-at-preserved-then-has_decided : goal.loop-at-preserved-then-has_decided
 unfolding with_process process_at
 loop-at-preserved-then-has_decided c =
-    let r = closed_at (goal.at.loop-at-preserved-then-has_decided c).After-finish-c in
-    goes _ _ _ _ _ _ _ _ (event r.before.before.before.before.before.before.before _
-    r.before.before.before.before.before.e5.given.1) _
-    (r.before.before.close-check.ensures ∙ sym (refuses_close _ _)) r.before.if8.left _
-    ((closed (goal.at.loop-at-preserved-then-has_decided c).After-finish-c).decides (sym c.has_decided.ensures ∙ c.if-has_decided.true)) _
-    (closed (goal.at.loop-at-preserved-then-has_decided c).After-finish-c).closing
+    let d = closed (goal.at.loop-at-preserved-then-has_decided c).After-finish-c in
+    goes _ _ _ _ _ _ _ _ (event (goal.at.loop-at-preserved-then-has_decided c).In-Got _ c.in-Close.is) _
+    (c.close_check-k.ensures ∙ sym (refuses_close _ _)) c.if-k-ne0-4.false _
+    (d.decides (sym c.has_decided.ensures ∙ c.if-has_decided.true)) _ d.closing
 
 pub round_index-opened-requires : goal.round_index-opened-requires
 unfolding process_at
 round_index-opened-requires c =
-    let w = turn (closed_at (goal.at.round_index-opened-requires c).After-finish-c).before.before.before.before.before.before.before.before.before.before in
-    (closed (goal.at.round_index-opened-requires c).After-finish-c).round (sym c.has_decided.ensures ∙ c.if-has_decided.false)
-    (turn_sizes w).1 (turn_round w _)
+    let w = turn (goal.at.round_index-opened-requires c).After-decode in
+    (closed (goal.at.round_index-opened-requires c).After-finish-c).round
+    (sym c.has_decided.ensures ∙ c.if-has_decided.false) (turn_sizes w).1 (turn_round w _)
 
 pub loop-at-preserved-in-Close : goal.loop-at-preserved-in-Close
 unfolding process_at
 loop-at-preserved-in-Close c =
     let l = c.loop-left in
-    let r = closed_at (goal.at.loop-at-preserved-in-Close c).After-finish-c in
-    let b = r.before.before.before.before.before.before.before.before.before.before.before.before.before.before.before.loop2.s in
-    goes _ _ _ _ _ _ _ _ (event r.before.before.before.before.before.before.before _
-    r.before.before.before.before.before.e5.given.1) _
-    (r.before.before.close-check.ensures ∙ sym (refuses_close _ _)) r.before.if8.left _
-    (opened_marked b r.before.before.before.before.before.e5.given.0.0 c.round_index-opened.result
-    l.marks l.g c.finish-c.result.process
-    ∙ (closed (goal.at.loop-at-preserved-in-Close c).After-finish-c).opens
-    (sym c.has_decided.ensures ∙ c.if-has_decided.false) _
-    c.round_index-opened.ensures.0) _
-    (closed (goal.at.loop-at-preserved-in-Close c).After-finish-c).closing
+    let d = closed (goal.at.loop-at-preserved-in-Close c).After-finish-c in
+    goes _ _ _ _ _ _ _ _ (event (goal.at.loop-at-preserved-in-Close c).In-Got _ c.in-Close.is) _
+    (c.close_check-k.ensures ∙ sym (refuses_close _ _)) c.if-k-ne0-4.false _
+    (opened_marked c.loop-at.s c.in-Close.a c.round_index-opened.result l.marks l.g c.finish-c.result.process
+    ∙ d.opens (sym c.has_decided.ensures ∙ c.if-has_decided.false) _ c.round_index-opened.ensures.0) _ d.closing
 
 -- ---- crash
 pub loop-at-preserved-in-Crash : goal.loop-at-preserved-in-Crash
@@ -646,7 +624,7 @@ round_index-r-requires-in-Close c = close_round c
 
 pub next-next-requires : goal.next-next-requires
 unfolding process_at
-next-next-requires c = (low-close (goal.at.next-next-requires c).In-Close, close_round (goal.at.next-next-requires c).Else-k-ne0-4)
+next-next-requires c = record { a_bound = low-close (goal.at.next-next-requires c).In-Close; le_round = close_round (goal.at.next-next-requires c).Else-k-ne0-4 }
 
 pub remove-left-requires : goal.remove-left-requires
 unfolding process_at
@@ -662,7 +640,7 @@ bounds-s-i-then-left-eq1 c = row-slot (goal.at.bounds-s-i-then-left-eq1 c).In-lo
 
 pub same-alike-requires : goal.same-alike-requires
 unfolding process_at
-same-alike-requires c = (close-sizes (round_of (goal.at.same-alike-requires c).After-remove-left)).0
+same-alike-requires c = (close-sizes ((goal.at.same-alike-requires c).After-round_index-r-in-Close)).0
 
 pub overflow_add-i-in-loop-left : goal.overflow_add-i-in-loop-left
 unfolding process_at
@@ -670,20 +648,19 @@ overflow_add-i-in-loop-left c = Fits-under w64 _ 272 (omega (arith, row-slot (go
 
 pub offset_bounds-s-a-in-Close-2 : goal.offset_bounds-s-a-in-Close-2
 unfolding process_at
-offset_bounds-s-a-in-Close-2 c = scaled_Fits _ 16 _ (low-close (closed_at (goal.at.offset_bounds-s-a-in-Close-2 c).After-finish-c).before.before.before.before) (lit< tt)
+offset_bounds-s-a-in-Close-2 c = scaled_Fits _ 16 _ (low-close (goal.at.offset_bounds-s-a-in-Close-2 c).In-Close) (lit< tt)
 
 pub bounds-s-a-in-Close-2 : goal.bounds-s-a-in-Close-2
 unfolding process_at
-bounds-s-a-in-Close-2 c = low-close (closed_at (goal.at.bounds-s-a-in-Close-2 c).After-finish-c).before.before.before.before
+bounds-s-a-in-Close-2 c = low-close (goal.at.bounds-s-a-in-Close-2 c).In-Close
 
 pub loop-at-smaller-then-has_decided : goal.loop-at-smaller-then-has_decided
 unfolding process_at
-loop-at-smaller-then-has_decided c = turn_less (turn (closed_at (goal.at.loop-at-smaller-then-has_decided c).After-finish-c).before.before.before.before.before.before.before.before.before.before)
+loop-at-smaller-then-has_decided c = turn_less (turn (goal.at.loop-at-smaller-then-has_decided c).After-decode)
 
 pub overflow_mul-a : goal.overflow_mul-a
 unfolding process_at
-overflow_mul-a c = scaled_Fits _ 16 _ (low-close (closed_at
-    (goal.at.overflow_mul-a c).After-finish-c).before.before.before.before) (lit< tt)
+overflow_mul-a c = scaled_Fits _ 16 _ (low-close (goal.at.overflow_mul-a c).In-Close) (lit< tt)
 
 pub overflow_add-a : goal.overflow_add-a
 unfolding process_at
@@ -699,8 +676,7 @@ bounds-s-a-in-Close-3 c = close-slot c
 
 pub overflow_mul-s : goal.overflow_mul-s
 unfolding process_at
-overflow_mul-s c = scaled_Fits _ 16 _ (low-close (closed_at
-    (goal.at.overflow_mul-s c).After-finish-c).before.before.before.before) (lit< tt)
+overflow_mul-s c = scaled_Fits _ 16 _ (low-close (goal.at.overflow_mul-s c).In-Close) (lit< tt)
 
 pub overflow_add-s : goal.overflow_add-s
 unfolding process_at
@@ -712,11 +688,11 @@ offset_bounds-s-a-in-Close-4 c = scaled_Fits _ 256 _ (close-slot c) (lit< tt)
 
 pub bounds-s-a-in-Close-4 : goal.bounds-s-a-in-Close-4
 unfolding process_at
-bounds-s-a-in-Close-4 c = (close-slot c, tt)
+bounds-s-a-in-Close-4 c = close-slot c
 
 pub loop-at-smaller-in-Close : goal.loop-at-smaller-in-Close
 unfolding process_at
-loop-at-smaller-in-Close c = turn_less (turn (closed_at (goal.at.loop-at-smaller-in-Close c).After-finish-c).before.before.before.before.before.before.before.before.before.before)
+loop-at-smaller-in-Close c = turn_less (turn (goal.at.loop-at-smaller-in-Close c).After-decode)
 
 pub crash_check-k-requires : goal.crash_check-k-requires
 unfolding process_at

@@ -20,7 +20,7 @@ returns-then-not-is_sound c =
     let r = list_refused a.b a.out.now 1
     (list_damaged a.b a.out.now
     (sym c.is_sound.ensures ∙ c.if-not-is_sound.true)) in
-    (sym r.0, sym r.1)
+    record { value = sym r.0; out_after = sym r.1 }
 
 -- past the check of damage
 sound : (c : Else-not-is_sound) → sound_of c.args.b ≡ true
@@ -45,7 +45,7 @@ returns-then-out-messages c =
     let r = list_refused a.b a.out.now 9
     (list_short a.b a.out.now (sound (goal.at.returns-then-out-messages c).Else-not-is_sound)
     (omega (arith, c.if-out-messages.true, measured (goal.at.returns-then-out-messages c).After-all_messages-messages))) in
-    (sym r.0, sym r.1)
+    record { value = sym r.0; out_after = sym r.1 }
 
 pub put_all-requires : goal.put_all-requires
 put_all-requires c =
@@ -64,10 +64,10 @@ returns c =
     omega (arith, c.if-out-messages.false, measured (goal.at.returns c).After-all_messages-messages) in
     let r =
     list_listed a.b a.out.now (list_fits a.b a.out.now (sound (goal.at.returns c).Else-not-is_sound) room) in
-    let p = c.put_all_lem in
-    let m : c.all_messages-messages.result ≡ length (transit_bytes a.b) / 3 = omega (arith, measured (goal.at.returns c).After-all_messages-messages) in (
-      ap Count m ∙ sym r.0,
-      stores_front a.out.now (transit_bytes a.b) p.new.0 p.result room
-          (rw (transit_by a.b) p.ensures)
-          ∙ sym r.1,
-    )
+    let p = c.put_all in
+    let m : c.all_messages-messages.result ≡ length (transit_bytes a.b) / 3 = omega (arith, measured (goal.at.returns c).After-all_messages-messages) in
+    record {
+      value = ap Count m ∙ sym r.0;
+      out_after =
+          stores_front a.out.now (transit_bytes a.b) p.new.out p.result room (rw (transit_by a.b) p.ensures) ∙ sym r.1;
+    }

@@ -25,7 +25,7 @@ loop-r-preserved c =
     let l = c.loop-r in
     let p = c.put_round-place in (
       search rules,
-      stores_more (round_bytes a.words.now a.n) a.out.now 0 l.r l.out l.place p.new.0
+      stores_more (round_bytes a.words.now a.n) a.out.now 0 l.r l.out l.place p.new.out
           p.result l.invariant.1 p.ensures,
     )
 

@@ -28,7 +28,7 @@ loop-a-preserved c =
     let p = c.put_set-place in (
       search rules,
       stores_more (sender_bytes a.words.now a.n a.r) a.out.now a.at l.a l.out l.place
-          p.new.0 p.result l.invariant.1 p.ensures,
+          p.new.out p.result l.invariant.1 p.ensures,
     )
 
 pub loop-a-init : goal.loop-a-init

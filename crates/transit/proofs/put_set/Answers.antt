@@ -29,7 +29,7 @@ loop-b-preserved c =
     let p = c.put_message-place in (
       search rules,
       stores_more (message_bytes (get_or a.words.now (a.a * 17 + a.r) 0) a.r a.a) a.out.now a.at l.b
-          l.out l.place p.new.0 p.result l.invariant.1 p.ensures,
+          l.out l.place p.new.out p.result l.invariant.1 p.ensures,
     )
 
 pub loop-b-init : goal.loop-b-init

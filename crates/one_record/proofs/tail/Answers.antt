@@ -5,9 +5,7 @@ use Prim.Native.Nat.{ℕ, ◌-◌, ◌≤◌}
 use native.Mathlib.Omega.{arith}
 use lib.ListN.{length, take, drop, length-drop, drop_of_length-le}
 use lib.Seq.{take_all}
-use borrow.Author.Rules.{rules}
-use Rattle.one_record.proofs.tail.Statement.{statement}
-use Rattle.one_record.proofs.tail.Tie as tie
+use Rattle.one_record.proofs.tail.Goals as goal
 
 to_end : (at : ℕ) (l : List ℕ) → take (length l - at) (drop at l) ≡ drop at l
 to_end at l = take_all (length l - at) (drop at l) (omega (arith, length-drop at l))
@@ -15,14 +13,10 @@ to_end at l = take_all (length l - at) (drop at l) (omega (arith, length-drop at
 past_end : (at : ℕ) (l : List ℕ) → length l ≤ at → drop (length l) l ≡ drop at l
 past_end at l h = let e : length l ≤ length l = omega arith in drop_of_length-le l e ∙ sym (drop_of_length-le l h)
 
-returns : tie.Need-returns
-returns c = let a = c.before.before.args in to_end a.at a.s.now
+pub returns-then-at-n : goal.returns-then-at-n
+returns-then-at-n c = let a = c.args in to_end a.at a.s.now
 
-returns-2 : tie.Need-returns-2
-returns-2 c =
-    let a = c.before.before.args in
-    to_end (length a.s.now) a.s.now ∙ past_end a.at a.s.now (omega (arith, c.before.if1.false))
-
-pub tail-spec : {M : Type 1} → statement M
-tail-spec = tie.close (tie.spec (λ c. search rules) (λ c. search rules) (λ c. search rules) (λ c. search rules)
-    (λ c. search rules) (λ c. search rules) returns returns-2)
+pub returns-else-at-n : goal.returns-else-at-n
+returns-else-at-n c =
+    let a = c.args in
+    to_end (length a.s.now) a.s.now ∙ past_end a.at a.s.now (omega (arith, c.if-at-n.false))

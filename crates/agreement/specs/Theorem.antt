@@ -14,7 +14,7 @@ use Rattle.sets.specs.TruthLaws.{Is, on, off, is, clash, select_on, same_mk as n
 use Rattle.global_data.specs.declared.GlobalData.{GlobalData}
 use Rattle.global_data.specs.declared.Entry.TheVariants.{Absent, Value}
 use Rattle.global_data.specs.GlobalData.{value_in, entry_of, same_to}
-use Rattle.global_data.specs.Laws.{entry_present, entry_absent, value_present, absent_clear, same_mk}
+use Rattle.global_data.proofs.Laws.{entry_present, entry_absent, value_present, absent_clear, same_mk}
 use Rattle.process.specs.Steps.{has_decided}
 use Rattle.bench.specs.declared.Shown.TheVariants.{Marks, Refused}
 use Rattle.bench.specs.declared.Bench.{Bench}
@@ -23,7 +23,7 @@ use Rattle.bench.specs.declared.Carried.{Carried}
 use Rattle.bench.specs.declared.Event.{Event}
 use Rattle.bench.specs.State.{process_at, crashed_at, opened_of}
 use Rattle.bench.specs.Sound.{opens}
-use Rattle.bench.specs.SoundLaws.{sound_on}
+use Rattle.bench.proofs.SoundLaws.{sound_on}
 use Rattle.bench.specs.Refuse.{refusal}
 use Rattle.bench.specs.Record.{is_kind}
 use Rattle.bench.specs.Calls.{refused, answer_of, after_events, word_at, show_of, shown_in}
@@ -31,7 +31,7 @@ use Rattle.agreement.specs.Statement.History.{Call, after_calls, answers, after_
 use Rattle.agreement.specs.Statement.History.{outcome, before_decision, started_with, crashed_in, crash_count}
 use Rattle.agreement.specs.Statement.History.{rounds}
 use Rattle.bench.specs.Carry.{carry_of, carry_refusal, plain_start}
-use Rattle.bench.specs.OldRulesLaws.{refused_now}
+use Rattle.bench.proofs.OldRulesLaws.{refused_now}
 use Rattle.agreement.specs.Statement.Demand3.{Holds, Demand3}
 use Rattle.agreement.specs.Statement.Carrying.{as_old, takes_bytes, Carrying, Across}
 use Rattle.agreement.specs.Histories.Replay.{Next, along, sizes_to, sizes_from, replay}

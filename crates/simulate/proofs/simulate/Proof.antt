@@ -5,7 +5,7 @@ use native.Mathlib.Omega.{arith}
 use lib.ListN.{length, length-append}
 use lib.Seq.{length-take-le}
 use borrow.Author.Rules.{rules}
-use Rattle.bench.specs.SoundLaws.{sound_on}
+use Rattle.bench.proofs.SoundLaws.{sound_on}
 use Rattle.simulate.specs.LinesLaws.{reached_sound}
 use Rattle.simulate.proofs.simulate.Statement.{statement}
 use Rattle.simulate.proofs.simulate.Tie as tie

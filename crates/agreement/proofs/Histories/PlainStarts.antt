@@ -26,7 +26,7 @@ use Rattle.agreement.specs.Bridge.BenchView.{row_of, view_of}
 use Rattle.agreement.specs.Histories.Append.{started_append}
 use Rattle.agreement.specs.Histories.Replay.{Next, reached_next, reached_sizes, sizes_to}
 use Rattle.agreement.specs.Histories.InvariantsHold.{Along}
-use Rattle.agreement.specs.Histories.HistoryMatchesBench.{Told}
+use Rattle.agreement.proofs.Histories.HistoryMatchesBench.{Told}
 
 -- a process started with a value above 65,535
 pub record Large (h : List Event) : Type 0 where

@@ -31,10 +31,11 @@ EXPORTS := export_bench export_aggregates export_calendar
 LIBRARY := target/staticlib/libgerzulan.a
 library: $(LIBRARY)
 	@:
-$(LIBRARY): crates.txt $(shell find crates \( -name '*.rt' -o -name '*.antt' \))
-	@for crate in $(EXPORTS); do scripts/proved staticlib $$crate || exit 1; done
-	@cd target/staticlib && rm -f libgerzulan.a && for crate in $(EXPORTS); do ar x lib$$crate.a; done && \
-	ar crs libgerzulan.a $(EXPORTS:=.o) && rm -f $(EXPORTS:=.o)
+$(LIBRARY): crates.txt $(shell find crates -name out -prune -o \( -name '*.rt' -o -name '*.antt' \) -print)
+	@scripts/build $(EXPORTS)
+	@cd target/staticlib && rm -rf objects libgerzulan.a && for crate in $(EXPORTS); do \
+	mkdir -p objects/$$crate && (cd objects/$$crate && ar x ../../lib$$crate.a && for object in *; do mv "$$object" "../$$crate$${object#$$crate}"; done) || exit 1; done && \
+	ar crs libgerzulan.a objects/*.o && rm -rf objects
 
 # The hosts in C, C++ and Rust: built, run and compared.
 examples: library
@@ -45,7 +46,7 @@ pictures: library
 	@scripts/pictures
 
 bench: library
-	@scripts/proved check simulate
+	@scripts/build simulate
 	cd reference && cargo build --release --offline --quiet --features proved && target/release/bench
 
 # Ten minutes of the differential test.

@@ -21,8 +21,8 @@
  * its pointer may be NULL; no other pointer may. What is written overlaps nothing else that is given; what is only
  * read may overlap (entries and standing values may be one array).
  *
- * Stack. Below its caller `gerzulan_bench_open` needs at most 80 KiB, step and run 44, global data 42, carry and the
- * list in transit 22, and the others half a KiB: measured by include/stack.c, in `make test`. GERZULAN_STACK_BYTES is
+ * Stack. Below its caller `gerzulan_bench_open` needs at most 80 KiB, step and run 44, global data 42, the list in
+ * transit 23, carry 22, and the others half a KiB: measured by include/stack.c, in `make test`. GERZULAN_STACK_BYTES is
  * room for any, and for the dynamic linker, which may look up memcpy and memset at the first call and needed 3 KiB for
  * it. The library calls these two and nothing else, so nothing is allocated. A bench is 19,748 bytes.
  *

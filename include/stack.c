@@ -53,7 +53,7 @@ static struct {
     {"gerzulan_bench_step", step, 44, 0},
     {"gerzulan_bench_run", run, 44, 0},
     {"gerzulan_bench_global_data", global_data, 42, 0},
-    {"gerzulan_bench_in_transit", in_transit, 22, 0},
+    {"gerzulan_bench_in_transit", in_transit, 23, 0},
     {"gerzulan_total", total, 0.5, 0},
     {"gerzulan_go", go, 0.5, 0},
     {"gerzulan_lead", lead, 0.5, 0},

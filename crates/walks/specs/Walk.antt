@@ -5,7 +5,7 @@ use seplogic.Ra.Ura.{Ura}
 use mir.Syntax.{Fn}
 use base.Logic.{ent, via, fst∗}
 use prog.Model.{Model}
-use prog.Routine.{Name, Env}
+use prog.Routine.{Callee, Env}
 use prog.Wp.{WpFn, Closed, Tables}
 use types.Logic.{Logic}
 use contract.Monad.{Fun}
@@ -22,7 +22,7 @@ use denote.Triple.Walked.{Stays, AllGo, walk_of, walked, walk_Meets}
 use denote.Triple.Clauses.{Ended, Clauses, closing}
 
 module _ {M : Type 1} {𝓤 : Ura M} (𝓛 : Logic 𝓤) (𝓜 : Model 𝓤 𝓛.H) (𝓡 : Running 𝓤 𝓛.H 𝓜)
-    (env : Env) (name : Name) (f : Fn)
+    (env : Env) (name : Callee) (f : Fn)
     (T : Ended) (hs : Stays T.signature.params T.kept) (c : Clauses 𝓤 T) where
   open 𝓛 use {H}
 

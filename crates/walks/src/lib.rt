@@ -1,3 +1,3 @@
-// What the proofs by hand of the exported calls share is in specs/.
+// A lemma for proofs by hand, which walk through a function's code, is in specs/. No proof here is by hand today.
 
 #![tactic(auto)]

@@ -1,3 +1,0 @@
-mod Reading
-mod RunIn
-pub mod Lent

@@ -1,3 +1,4 @@
+-- What the total is made of, in the words of its laws. They are in ../proofs/TotalLaws.antt.
 use Rattle.std.specs.Prelude.{List, ℕ, ◌*◌, get_or}
 use Rattle.sets.specs.Lists.{sum_to}
 use Rattle.sets.specs.Set.{has}

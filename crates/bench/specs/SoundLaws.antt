@@ -1,3 +1,4 @@
+-- Soundness in the words of the code's contracts. The laws are in ../proofs/SoundLaws.antt.
 use Rattle.std.specs.Prelude.{Bool}
 use mathlib.Core.List.{List}
 use Prim.Native.Nat.{ℕ}

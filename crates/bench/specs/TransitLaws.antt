@@ -1,3 +1,4 @@
+-- The list in transit in the words of the code's contracts. The laws are in ../proofs/TransitLaws.antt.
 use Rattle.std.specs.Prelude.{◌≡◌, List, ℕ, ◌+◌, ◌*◌, length, get_or}
 use Rattle.std.proofs.Math.Seq as seq
 use Rattle.sets.specs.Lists.{joined}

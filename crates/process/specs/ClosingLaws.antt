@@ -1,3 +1,5 @@
+-- How a round ends by one pass over the estimates, in the words of the code's contracts. The laws are in
+-- ../proofs/ClosingLaws.antt.
 use Rattle.std.specs.Prelude.{Bool, ℕ, ◌+◌}
 use Rattle.sets.specs.Truth.{◌and◌, same, select}
 use Rattle.process.specs.declared.Process.{Process}

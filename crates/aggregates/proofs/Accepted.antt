@@ -8,7 +8,7 @@ use native.Mathlib.Omega.{arith}
 use lib.ListN.{length}
 use Rattle.aggregates.specs.Answers.{Answer}
 use Rattle.aggregates.specs.Aggregates.{refusal_of, unless}
-use Rattle.aggregates.specs.Refusals.{accepted, answered}
+use Rattle.aggregates.proofs.Refusals.{accepted, answered}
 
 -- number is what the checks found, nothing
 module _ (n marks : ℕ) (named stood : Bool) (entries : List ℕ) (number : ℕ)

@@ -1,13 +1,9 @@
 pub mod Aggregates
 pub mod Answers
-pub mod Blind
 pub mod Cases
 pub mod Change
-pub mod Comparison
 pub mod Entries
 pub mod Leader
-pub mod LeaderLaws
-pub mod Refusals
 pub mod Search
 pub mod TotalLaws
 pub mod Whole

@@ -1,60 +1,14 @@
--- Laws of the total: its ends, in the order of its checks; what it is made of; and how great it can be.
-use Rattle.std.specs.Prelude.{◌≡◌, Bool, false, List, ℕ, ◌+◌, ◌*◌, ◌^◌, ◌≤◌, ◌<◌, get_or, length}
-use Rattle.std.proofs.Math.Path.{refl, sym, fun_ext}
-use Rattle.std.proofs.Common.{◌∙◌, ap, arith}
-use Rattle.std.proofs.Math.Bool.{true}
+-- What the total is made of, in the words of its laws. They are in ../proofs/TotalLaws.antt.
+use Rattle.std.specs.Prelude.{List, ℕ, ◌*◌, get_or}
 use Rattle.sets.specs.Lists.{sum_to}
-use Rattle.sets.specs.SumLaws.{sum_both, sum_bound}
-use Rattle.sets.specs.Set.{has, within}
-use Rattle.sets.specs.Truth.{one_to, select}
-use Rattle.sets.specs.TruthLaws.{select_by, same_mk, same_off}
-use Rattle.global_data.specs.GlobalData.{portions_of, entry_by}
-use Rattle.global_data.specs.WordLaws.{portions_lt}
-use Rattle.aggregates.specs.Answers.{refused, gives}
-use Rattle.aggregates.specs.Entries.{entry_at, standing_at, counts_for, diets_fit}
-use Rattle.aggregates.specs.Aggregates.{refusal_of, unless, total_to, total_of}
-use Rattle.aggregates.specs.Refusals.{by_standing, by_diet, by_none, turned_away, unless_none}
-
--- ---- the ends, of n from 1 to 16, marks below n and n entries
-
-module _ (n marks : ℕ) (entries standing : List ℕ) (sized : one_to 16 n ≡ true) (marked : within n marks ≡ true)
-    (long : length entries ≡ n) where
-  -- a standing list not of n, before any entry is looked at
-  pub total_standing : (length standing ≡ n → ⊥) → total_of n entries marks standing ≡ refused 10
-  unfolding total_of
-  total_standing h =
-      sym (turned_away _ 10 _
-      (sym (by_standing n marks true _ entries sized marked refl long (same_off _ _ h))) (λ z. omega arith))
-
-  -- then an entry with more diet portions than portions
-  pub total_diet : length standing ≡ n → diets_fit n (entry_at entries marks) ≡ false
-      → total_of n entries marks standing ≡ refused 15
-  unfolding total_of
-  total_diet l d =
-      sym (turned_away _ 15 _
-      (sym (by_diet n marks true _ entries sized marked refl long (same_mk _ _ l) d)) (λ z. omega arith))
-
-  -- every other call is answered
-  pub total_given : length standing ≡ n → diets_fit n (entry_at entries marks) ≡ true
-      → total_of n entries marks standing ≡ gives (total_to n (standing_at standing) (entry_at entries marks))
-  unfolding total_of
-  total_given l d = unless_none _ _ (by_none n marks true _ entries sized marked refl long (same_mk _ _ l) d)
-
--- ---- what it is made of
+use Rattle.sets.specs.Set.{has}
+use Rattle.sets.specs.Truth.{select}
+use Rattle.global_data.specs.GlobalData.{portions_of}
+use Rattle.aggregates.specs.Entries.{standing_at}
 
 -- the portions in word i
 abbrev pub portions_at : List ℕ → ℕ → ℕ
 portions_at entries i = portions_of (get_or entries i 0)
-
--- what an entry adds, by its mark
-pub counts_is : (entries : List ℕ) (marks i s : ℕ)
-    → counts_for s (entry_at entries marks i) ≡ select (has marks i) (portions_at entries i) s
-unfolding entry_at select
-counts_is entries marks i s = go (has marks i)
-  where
-    go : (b : Bool) → counts_for s (entry_by b (get_or entries i 0)) ≡ select b (portions_at entries i) s
-    go true = refl
-    go false = refl
 
 -- the portions of the present entries: 01's total, where an absent one was nought
 abbrev pub present_sum : ℕ → List ℕ → ℕ → ℕ
@@ -64,51 +18,6 @@ present_sum n entries marks = sum_to n (λ i. select (has marks i) (portions_at 
 abbrev pub absent_sum : ℕ → List ℕ → ℕ → ℕ
 absent_sum n standing marks = sum_to n (λ i. select (has marks i) 0 (standing_at standing i))
 
-select_split : (b : Bool) (x y : ℕ) → select b x y ≡ select b x 0 + select b 0 y
-unfolding select
-select_split true x y = omega arith
-select_split false x y = omega arith
-
-module _ (n marks : ℕ) (entries standing : List ℕ) where
-  pub total_parts : total_to n (standing_at standing) (entry_at entries marks)
-      ≡ present_sum n entries marks + absent_sum n standing marks
-  total_parts =
-      ap (sum_to n) (fun_ext (λ i. counts_is entries marks i _ ∙ select_split (has marks i) _ _))
-      ∙ sum_both n (λ i. select (has marks i) (portions_at entries i) 0) _
-
-  -- with standing values all 0 it is the sum of the present ones
-  pub total_present : length standing ≡ n → ((i : ℕ) → i < n → standing_at standing i ≡ 0)
-      → total_of n entries marks standing
-      ≡ unless (refusal_of n marks true true entries) (gives (present_sum n entries marks))
-  unfolding total_of
-  total_present l z =
-      rw (same_mk _ _ l)
-      (ap (λ v. unless (refusal_of n marks true true entries) (gives v)) (omega (arith, total_parts, none)))
-    where
-      nought : (i : ℕ) → i < n → select (has marks i) 0 (standing_at standing i) ≤ 0
-      nought i b = select_by (λ x. x ≤ 0) (has marks i) _ _ (λ e. omega arith) (λ e. omega (arith, z i b))
-
-      none : absent_sum n standing marks ≡ 0
-      none = omega (arith, sum_bound n 0 (λ i. select (has marks i) 0 (standing_at standing i)) nought)
-
--- ---- how great it can be
-
 -- sixteen of the largest standing values
 abbrev pub greatest : ℕ
 greatest = 16 * 4294967295
-
-pub greatest_fits : greatest < 2 ^ 64
-greatest_fits = omega arith
-
-module _ (n marks : ℕ) (entries standing : List ℕ) where
-  -- of standing values of 32 bits none is greater, whatever the entries are
-  pub total_most : n ≤ 16 → ((i : ℕ) → i < n → standing_at standing i < 2 ^ 32)
-      → total_to n (standing_at standing) (entry_at entries marks) ≤ greatest
-  total_most few s =
-      omega (arith, sum_bound n 4294967295 (λ i. counts_for (standing_at standing i) (entry_at entries marks i)) each)
-    where
-      each : (i : ℕ) → i < n → counts_for (standing_at standing i) (entry_at entries marks i) ≤ 4294967295
-      each i l =
-          rw (counts_is entries marks i (standing_at standing i))
-          (select_by (λ x. x ≤ 4294967295) (has marks i) _ _ (λ e. omega (arith, portions_lt (get_or entries i 0)))
-          (λ e. omega (arith, s i l)))

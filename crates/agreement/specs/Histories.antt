@@ -3,10 +3,6 @@ pub mod Append
 pub mod Replay
 pub mod InvariantsHold
 pub mod OneEvent
-pub mod HistoryMatchesBench
-pub mod AbsentCrashed
 pub mod GlobalDataCall
 pub mod Contracts
-pub mod PlainStarts
-pub mod RewrittenCalls
 pub mod CarryingCase

@@ -1,4 +1,4 @@
-// The theorem, that every list of calls on an opened bench meets demand 3, is in specs/:
-// statement/Demand3.antt states it, Theorem.antt proves it.
+// The theorem, that every list of calls on an opened bench meets demand 3: specs/Statement/Demand3.antt states it,
+// proofs/Theorem.antt proves it.
 
 #![tactic(auto)]

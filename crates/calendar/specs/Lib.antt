@@ -2,6 +2,4 @@ pub mod Calendar
 pub mod Cases
 pub mod NumberingLaws
 pub mod PassLaws
-pub mod RecordLaws
 pub mod RefusalLaws
-pub mod WeekLaws

@@ -1,4 +1,2 @@
 pub mod GlobalData
-pub mod Laws
-pub mod PassLaws
 pub mod WordLaws

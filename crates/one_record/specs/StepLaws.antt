@@ -18,19 +18,19 @@ use Rattle.bench.specs.declared.Counters.{Counters}
 use Rattle.bench.specs.declared.Refusal.{Refusal}
 use Rattle.bench.specs.Sound.{sound_of}
 use Rattle.bench.specs.Record.{event_of, decode_of, v2, decode_as}
-use Rattle.bench.specs.RecordLaws.{decode_from, decode_size}
+use Rattle.bench.proofs.RecordLaws.{decode_from, decode_size}
 use Rattle.bench.specs.Refuse.{is_crash, refusal}
-use Rattle.bench.specs.RefuseLaws.{refusal_damaged, refusal_unread, accepted, refused-keeps, accepted_effect}
+use Rattle.bench.proofs.RefuseLaws.{refusal_damaged, refusal_unread, accepted, refused-keeps, accepted_effect}
 use Rattle.bench.specs.RunLoop.{effect_of}
 use Rattle.bench.specs.Closings.{last_of}
 use Rattle.bench.specs.RunLoop.{closing_in}
-use Rattle.bench.specs.ClosingLaws.{closing_refused}
+use Rattle.bench.proofs.ClosingLaws.{closing_refused}
 use Rattle.bench.specs.LastLaws.{none_last}
 use Rattle.bench.specs.Calls.{refused, answer_of, step_of}
 use Rattle.bench.specs.Calls.{tallied, crash_decoded, tally_of, run_of}
 use Rattle.bench.specs.RunLoop.{ended_of, run_from}
 use Rattle.one_record.specs.OneRecord.{record_in, answer_to, stepped_by, is_accepted, crash_byte}
-use Rattle.bench.specs.RunLaws.{step_is, run_empty, run-refused, run_accepted, run_damaged, run_sound}
+use Rattle.bench.proofs.RunLaws.{step_is, run_empty, run-refused, run_accepted, run_damaged, run_sound}
 
 -- ---- one record
 module _ (s : Bench) (l : List ℕ) where

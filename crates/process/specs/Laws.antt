@@ -18,7 +18,7 @@ use Rattle.sets.specs.Laws.{has_insert, has_remove, has_union, has_intersection,
 use Rattle.sets.specs.Laws.{nothing_in, empty_by, all_lt, insert_lt, remove_lt, difference_lt, intersection_lt}
 use Rattle.global_data.specs.declared.GlobalData.{GlobalData}
 use Rattle.global_data.specs.GlobalData.{nothing_of, one_of, same_to, all_same}
-use Rattle.global_data.specs.Laws.{fill_from-lt}
+use Rattle.global_data.proofs.Laws.{fill_from-lt}
 use Rattle.process.specs.declared.Process.{Process}
 use Rattle.process.specs.Fields.{with_received}
 use Rattle.process.specs.Steps.{idle_of, has_decided, takes_part, open_round_of, start_of, keeps, receive_of}

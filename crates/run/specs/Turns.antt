@@ -12,13 +12,14 @@ use Rattle.sets.specs.Truth.{select, ◌or◌}
 use Rattle.sets.specs.TruthLaws.{and_first, Is, on, off, is, clash, select_on, select_off, check-zero}
 use Rattle.global_data.specs.declared.GlobalData.{GlobalData}
 use Rattle.global_data.specs.GlobalData.{no_data}
-use Rattle.global_data.specs.PassLaws.{Passing}
+use Rattle.global_data.proofs.PassLaws.{Passing}
 use Rattle.process.specs.declared.Process.{Process}
 use Rattle.process.specs.declared.Closing.{Closing}
 use Rattle.process.specs.declared.Closing.TheVariants.{None}
 use Rattle.process.specs.Laws.{decide_decided, open_round}
 use Rattle.process.specs.Fields.{with_estimate}
-use Rattle.process.specs.ClosingLaws.{closing_by, finish_of, close_passed}
+use Rattle.process.specs.ClosingLaws.{closing_by, finish_of}
+use Rattle.process.proofs.ClosingLaws.{close_passed}
 use Rattle.process.specs.Steps.{has_decided, no_process, open_round_of, start_of, next_of, filled_of, closing_of}
 use Rattle.process.specs.Steps.{decides_of, advance_of, close_of, message_of, send_of, suspect_of, receive_of, adopt_of}
 use Rattle.bench.specs.declared.Bench.{Bench}
@@ -32,20 +33,20 @@ use Rattle.bench.specs.declared.Decoded.TheVariants.{Got, Refused}
 use Rattle.bench.specs.declared.Cause.TheVariants.{Empty, Spent, Refused as RefusedRun}
 use Rattle.bench.specs.State.{process_at, sent_at, transit_at, crashed_at, with_process, with_sent, with_transit, with_crashed}
 use Rattle.bench.specs.Sound.{sound_of}
-use Rattle.bench.specs.SoundLaws.{Bounds, sound_on, sound_step}
+use Rattle.bench.proofs.SoundLaws.{Bounds, sound_on, sound_step}
 use Rattle.bench.specs.Record.{decode_of, v2, decode_as}
-use Rattle.bench.specs.RecordLaws.{MessageIn, InRange, decode_size, decode_refused, decode_range}
+use Rattle.bench.proofs.RecordLaws.{MessageIn, InRange, decode_size, decode_refused, decode_range}
 use Rattle.bench.specs.Refuse.{number_of, actor, is_crash, passes7, passes8, passes9, refuses, refusal}
-use Rattle.bench.specs.RefuseLaws.{refusal_unread, refusal_event, accepted_effect}
+use Rattle.bench.proofs.RefuseLaws.{refusal_unread, refusal_event, accepted_effect}
 use Rattle.bench.specs.Effect.{opens_round, rows_at, sends, arrives, closes_as, effect}
 use Rattle.bench.specs.RunLoop.{effect_decoded, effect_by, effect_of}
 use Rattle.bench.specs.Closings.{closing_at, last_of}
 use Rattle.bench.specs.RunLoop.{closing_in}
-use Rattle.bench.specs.ClosingLaws.{close_some, closing_event}
+use Rattle.bench.proofs.ClosingLaws.{close_some, closing_event}
 use Rattle.bench.specs.LastLaws.{last_none, last_close}
 use Rattle.bench.specs.Calls.{refused, run_of}
 use Rattle.bench.specs.RunLoop.{ended_of, run_from}
-use Rattle.bench.specs.RunLaws.{run_empty, run_spent, run-refused, run_accepted, run_sound}
+use Rattle.bench.proofs.RunLaws.{run_empty, run_spent, run-refused, run_accepted, run_sound}
 use Rattle.checks.specs.Checks.{first_failed, start_check, message_check, close_check}
 use Rattle.checks.specs.Checks.{crash_check, suspect_check, takes_started}
 

@@ -19,12 +19,12 @@ use Rattle.bench.specs.declared.Cause.{Cause}
 use Rattle.bench.specs.declared.Cause.TheVariants.{Empty, Spent, Refused}
 use Rattle.bench.specs.Sound.{sound_of}
 use Rattle.bench.specs.Refuse.{refusal}
-use Rattle.bench.specs.RefuseLaws.{refusal_damaged, refused-keeps}
+use Rattle.bench.proofs.RefuseLaws.{refusal_damaged, refused-keeps}
 use Rattle.bench.specs.Calls.{refused, run_of, after_record}
 use Rattle.bench.specs.RunLoop.{ended_of, run_from}
 use Rattle.sets.specs.Lists.{joined}
 use Rattle.bench.specs.Record.{v2}
-use Rattle.bench.specs.RunLaws.{run_damaged, run_sound, run-refused, Why, closing_to, Runs, runs, sound_steps}
+use Rattle.bench.proofs.RunLaws.{run_damaged, run_sound, run-refused, Why, closing_to, Runs, runs, sound_steps}
 use Rattle.bench.specs.OneByOne.{rest_at, record_at, steps}
 use Rattle.text.specs.Text.{line_of, processes_text}
 use Rattle.simulate.specs.Output.{records_in, answer_at, line_at, lines_of, after_all}

@@ -8,7 +8,7 @@ use Rattle.sets.specs.Truth.{same}
 use Rattle.bench.specs.declared.Refusal.{Refusal}
 use Rattle.bench.specs.declared.Answer.TheVariants.{Accepted, Refused}
 use Rattle.bench.specs.Sound.{opens, sound_of}
-use Rattle.bench.specs.SoundLaws.{sound_opened}
+use Rattle.bench.proofs.SoundLaws.{sound_opened}
 use Rattle.bench.specs.Record.{word_of}
 use Rattle.bench.specs.Calls.{refused, open_of}
 use Rattle.simulate.specs.Output.{opening_refusal, unopened, opening_of}

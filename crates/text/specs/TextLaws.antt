@@ -4,7 +4,8 @@ use Rattle.std.specs.Prelude.{◌≡◌, refl, List, [], ◌∷◌, ◌++◌, �
 use Rattle.std.proofs.Common.{sym, ap, ◌∙◌, ⊎_elim, mul-suc, mul-le-mul_left, add-one, arith, length-append}
 use Rattle.sets.specs.TruthLaws.{select_on, select_off, less_mk, less_off, le-or}
 use Rattle.sets.specs.Lists.{joined}
-use Rattle.bench.specs.TransitLaws.{Stores, stores_none, stores_length, stores_more}
+use Rattle.bench.specs.TransitLaws.{Stores}
+use Rattle.bench.proofs.TransitLaws.{stores_none, stores_length, stores_more}
 use Rattle.text.specs.Text.{digits_of, decimal, field_of}
 
 -- ---- digits

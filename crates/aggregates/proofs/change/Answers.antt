@@ -8,7 +8,7 @@ use Rattle.sets.specs.Truth.{one_to}
 use Rattle.sets.specs.TruthLaws.{one_low, one_high}
 use Rattle.aggregates.specs.Aggregates.{refusal_of, changed, change_of}
 use Rattle.aggregates.specs.Entries.{entry_at}
-use Rattle.aggregates.specs.Refusals.{accepted, turned_away, answered}
+use Rattle.aggregates.proofs.Refusals.{accepted, turned_away, answered}
 use Rattle.aggregates.proofs.change.Goals.{Else-number-ne0}
 use Rattle.aggregates.proofs.change.Goals as goal
 

@@ -5,7 +5,7 @@ use native.Mathlib.Nat.{le_antisymm}
 use native.Mathlib.Numerals.{add-one}
 use borrow.Author.Rules.{rules}
 use Rattle.aggregates.specs.Entries.{entry_at}
-use Rattle.aggregates.specs.LeaderLaws.{leader_start, leader_next}
+use Rattle.aggregates.proofs.LeaderLaws.{leader_start, leader_next}
 use Rattle.aggregates.proofs.find_leader.Goals as goal
 
 pub loop-i-preserved : goal.loop-i-preserved

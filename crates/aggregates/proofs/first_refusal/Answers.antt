@@ -6,7 +6,7 @@ use Rattle.sets.specs.Set.{within}
 use Rattle.sets.specs.Truth.{one_to}
 use Rattle.sets.specs.TruthLaws.{one_high}
 use Rattle.aggregates.specs.Entries.{entry_at, diets_fit}
-use Rattle.aggregates.specs.Refusals.{by_size, by_marks, by_process, by_entries, by_standing, by_diet, by_none}
+use Rattle.aggregates.proofs.Refusals.{by_size, by_marks, by_process, by_entries, by_standing, by_diet, by_none}
 use Rattle.aggregates.proofs.first_refusal.Goals.{After-diets_fit, Else-not-one_to, Else-not-set_within}
 use Rattle.aggregates.proofs.first_refusal.Goals as goal
 

@@ -2,7 +2,7 @@
 use mathlib.Core.Path.{ap}
 use Rattle.aggregates.specs.Answers.{gives}
 use Rattle.aggregates.specs.Entries.{entry_at}
-use Rattle.aggregates.specs.Refusals.{turned_away}
+use Rattle.aggregates.proofs.Refusals.{turned_away}
 use Rattle.aggregates.specs.Aggregates.{go, go_of}
 use Rattle.aggregates.proofs.Accepted.{few, worked}
 use Rattle.aggregates.proofs.go.Goals as goal

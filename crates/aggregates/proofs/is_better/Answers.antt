@@ -1,5 +1,5 @@
 -- `is_better` is `better`: by the law of the first number that differs.
-use Rattle.aggregates.specs.Comparison.{by_portions, by_diet, by_number}
+use Rattle.aggregates.proofs.Comparison.{by_portions, by_diet, by_number}
 use Rattle.aggregates.proofs.is_better.Goals as goal
 
 pub returns-then-a-b : goal.returns-then-a-b

@@ -1,7 +1,7 @@
 -- `lead` answers `lead_of`: the refusal that the checks found, or what is worked of the entries,
 -- of which there are then n.
 use mathlib.Core.Path.{◌∙◌, ap}
-use Rattle.aggregates.specs.Refusals.{turned_away}
+use Rattle.aggregates.proofs.Refusals.{turned_away}
 use Rattle.aggregates.specs.Aggregates.{led, lead_of}
 use Rattle.aggregates.specs.Leader.{leader_to}
 use Rattle.aggregates.proofs.Accepted.{few, worked}

@@ -5,7 +5,7 @@ use Rattle.sets.specs.Truth.{same}
 use Rattle.sets.specs.TruthLaws.{same_on}
 use Rattle.aggregates.specs.Answers.{gives}
 use Rattle.aggregates.specs.Entries.{entry_at, standing_at}
-use Rattle.aggregates.specs.Refusals.{accepted, turned_away}
+use Rattle.aggregates.proofs.Refusals.{accepted, turned_away}
 use Rattle.aggregates.specs.Aggregates.{total_to, total_of}
 use Rattle.aggregates.proofs.Accepted.{few, worked}
 use Rattle.aggregates.proofs.total.Goals as goal

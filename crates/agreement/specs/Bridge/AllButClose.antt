@@ -22,8 +22,8 @@ use Rattle.bench.specs.declared.Event.TheVariants.{Start as StartOf, Send as Sen
 use Rattle.bench.specs.declared.Event.TheVariants.{Crash as CrashOf, Suspect as SuspectOf}
 use Rattle.bench.specs.State.{process_at, sent_at, transit_at, crashed_at, with_process, with_sent, with_transit, with_crashed}
 use Rattle.bench.specs.Refuse.{actor, number_of, passes7, refuses, is_crash}
-use Rattle.bench.specs.RefuseLaws.{Passes, passes_on, ninth_crash}
-use Rattle.bench.specs.SoundLaws.{Bounds, process_low}
+use Rattle.bench.proofs.RefuseLaws.{Passes, passes_on, ninth_crash}
+use Rattle.bench.proofs.SoundLaws.{Bounds, process_low}
 use Rattle.bench.specs.Effect.{opens_round, sends, arrives, effect}
 use Rattle.agreement.specs.View.View.{slot, keeping, taken, Calm, SameDecision, Start}
 use Rattle.agreement.specs.View.View.{Send, Arrive, Keep, Adopt, Ignore, Crash, Suspect}

@@ -16,8 +16,8 @@ use Rattle.sets.specs.TruthLaws.{or_mk_l, not_on, same_on, same_off, same_not, s
 use Rattle.global_data.specs.declared.GlobalData.{GlobalData}
 use Rattle.global_data.specs.GlobalData.{value_in, entry_of, same_to, all_same}
 use Rattle.global_data.specs.WordLaws.{value_word}
-use Rattle.global_data.specs.Laws.{entry_present, entry_absent, value_present, fill_stays, fill_has, fill_comes}
-use Rattle.global_data.specs.Laws.{Lowest, same_on as same-data-on, same_not as same-data-not, all_same_on, all_same-not}
+use Rattle.global_data.proofs.Laws.{entry_present, entry_absent, value_present, fill_stays, fill_has, fill_comes}
+use Rattle.global_data.proofs.Laws.{Lowest, same_on as same-data-on, same_not as same-data-not, all_same_on, all_same-not}
 use Rattle.process.specs.declared.Process.{Process}
 use Rattle.process.specs.Steps.{has_decided, open_round_of, arrived_of, due_of, next_of, peers_of}
 use Rattle.process.specs.Steps.{filled_of, decides_of, owed_of, decide_of, advance_of, takes_part}
@@ -30,8 +30,8 @@ use Rattle.bench.specs.declared.Event.TheVariants.{Start as StartOf, Send as Sen
 use Rattle.bench.specs.declared.Event.TheVariants.{Close as CloseOf, Crash as CrashOf, Suspect as SuspectOf}
 use Rattle.bench.specs.State.{process_at, crashed_at, with_process, with_sent}
 use Rattle.bench.specs.Refuse.{actor, passes7, passes8, refuses}
-use Rattle.bench.specs.RefuseLaws.{Passes, passes_on}
-use Rattle.bench.specs.SoundLaws.{Bounds, process_low, sent_low}
+use Rattle.bench.proofs.RefuseLaws.{Passes, passes_on}
+use Rattle.bench.proofs.SoundLaws.{Bounds, process_low, sent_low}
 use Rattle.bench.specs.Effect.{opens_round, rows_at, closes_as, effect}
 use Rattle.agreement.specs.View.View.{next, Differ, Close, Open, Decide}
 use Rattle.agreement.specs.View.Basic.{Basic}

@@ -21,10 +21,10 @@ use Rattle.bench.specs.declared.Event.TheVariants.{Start as StartOf, Send as Sen
 use Rattle.bench.specs.declared.Event.TheVariants.{Close as CloseOf, Crash as CrashOf, Suspect as SuspectOf}
 use Rattle.bench.specs.State.{process_at, transit_at, crashed_at}
 use Rattle.bench.specs.Sound.{sound_of}
-use Rattle.bench.specs.RecordLaws.{MessageIn, InRange, ValueFits, zero_fits}
+use Rattle.bench.proofs.RecordLaws.{MessageIn, InRange, ValueFits, zero_fits}
 use Rattle.bench.specs.Refuse.{actor, number_of, passes7, passes8, refuses, is_crash}
-use Rattle.bench.specs.RefuseLaws.{passes_mk, ninth_other}
-use Rattle.bench.specs.SoundLaws.{Bounds, process_low, sound_on}
+use Rattle.bench.proofs.RefuseLaws.{passes_mk, ninth_other}
+use Rattle.bench.proofs.SoundLaws.{Bounds, process_low, sound_on}
 use Rattle.bench.specs.Effect.{effect}
 use Rattle.agreement.specs.View.View.{View, Start, Send, Keep, Adopt, Ignore, Open, Decide, Crash, Suspect}
 use Rattle.agreement.specs.View.View.{OneStep}

@@ -12,10 +12,10 @@ use Rattle.std.proofs.Math.Pow.{are_bytes}
 use Rattle.bench.specs.EveryInLaws.{bytes_every}
 use Rattle.bench.specs.Record.{is_kind}
 use Rattle.bench.specs.Sound.{sound_of}
-use Rattle.bench.specs.SoundLaws.{every_mk, sound_on}
+use Rattle.bench.proofs.SoundLaws.{every_mk, sound_on}
 use Rattle.bench.specs.Refuse.{refuses, is_crash, refusal}
-use Rattle.bench.specs.RefuseLaws.{refusal_event}
-use Rattle.bench.specs.RecordLaws.{InRange, ValueFits, bytes_of, encode_of, decode_back, encode_byte}
+use Rattle.bench.proofs.RefuseLaws.{refusal_event}
+use Rattle.bench.proofs.RecordLaws.{InRange, ValueFits, bytes_of, encode_of, decode_back, encode_byte}
 
 -- only the bytes of a crash are of kind 5
 not_kind5 : (e : Event) → is_crash e ≡ false → is_kind 5 (encode_of e) ≡ false

@@ -7,7 +7,7 @@ use Rattle.sets.specs.Truth.{◌and◌, ◌or◌, same, select}
 use Rattle.sets.specs.TruthLaws.{Is, on, off, is, clash, select_on, or_none_l, or_none_r, or_cases, same_refl}
 use Rattle.global_data.specs.declared.GlobalData.{GlobalData}
 use Rattle.global_data.specs.GlobalData.{value_in}
-use Rattle.global_data.specs.Laws.{or_entry}
+use Rattle.global_data.proofs.Laws.{or_entry}
 use Rattle.process.specs.declared.Process.{Process}
 use Rattle.process.specs.Steps.{has_decided, close_of}
 use Rattle.bench.specs.declared.Bench.{Bench}

@@ -5,8 +5,8 @@ use Rattle.std.proofs.Common.{◌∙◌, arith, length-append}
 use Rattle.bench.specs.declared.Bench.{Bench}
 use Rattle.bench.specs.declared.Event.{Event}
 use Rattle.bench.specs.Sound.{opens, sound_of}
-use Rattle.bench.specs.SoundLaws.{sound_opened}
-use Rattle.bench.specs.RecordLaws.{InRange}
+use Rattle.bench.proofs.SoundLaws.{sound_opened}
+use Rattle.bench.proofs.RecordLaws.{InRange}
 use Rattle.bench.specs.Effect.{effect}
 use Rattle.bench.specs.Calls.{after_events}
 use Rattle.agreement.specs.Statement.History.{after_history}

@@ -23,7 +23,7 @@ use Rattle.bench.specs.declared.Event.{Event}
 use Rattle.bench.specs.declared.Event.TheVariants.{Start, Send, Arrive, Close, Crash, Suspect}
 use Rattle.bench.specs.State.{process_at, crashed_at, with_process, with_sent, with_transit, with_crashed}
 use Rattle.bench.specs.Refuse.{actor, passes7, is_crash}
-use Rattle.bench.specs.RefuseLaws.{Passes}
+use Rattle.bench.proofs.RefuseLaws.{Passes}
 use Rattle.bench.specs.Effect.{opens_round, rows_at, sends, arrives, closes_as, effect}
 use Rattle.agreement.specs.Statement.History.{decides_at, started_with, opens_at}
 use Rattle.agreement.specs.Histories.Append.{decides_for, is_crash_of, first_none}

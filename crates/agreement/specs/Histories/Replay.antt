@@ -13,12 +13,12 @@ use Rattle.bench.specs.declared.Event.{Event}
 use Rattle.bench.specs.State.{opened_of}
 use Rattle.bench.specs.Sound.{sound_of}
 use Rattle.bench.specs.Record.{Form}
-use Rattle.bench.specs.RecordLaws.{InRange}
+use Rattle.bench.proofs.RecordLaws.{InRange}
 use Rattle.bench.specs.Refuse.{refuses, refusal_by}
 use Rattle.bench.specs.Effect.{effect}
 use Rattle.bench.specs.Calls.{accepted_one, after_events, accepted_in}
-use Rattle.bench.specs.OldRulesLaws.{taken}
-use Rattle.bench.specs.RunLaws.{none_accepted, one_accepted, in_refused, in_accepted}
+use Rattle.bench.proofs.OldRulesLaws.{taken}
+use Rattle.bench.proofs.RunLaws.{none_accepted, one_accepted, in_refused, in_accepted}
 use Rattle.agreement.specs.Statement.History.{Call, step, run, after_call, given_by, after_calls, answers}
 use Rattle.agreement.specs.Statement.History.{after_history, accepted_by, add_call, history, ruled}
 use Rattle.agreement.specs.Histories.Append.{over_append, over_sizes}

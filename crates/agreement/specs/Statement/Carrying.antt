@@ -1,6 +1,6 @@
 -- Carrying a running week over (request C-17), as statements over every list of calls on an opened bench: what it
 -- gives after old calls whose accepted starts have values of at most 65,535; and that demand 3 goes on across it. The
--- theorems are in ../Theorem.antt, with what carrying answers after any calls.
+-- theorems are in ../../proofs, Carrying.antt and Theorem.antt, with what carrying answers after any calls.
 use Rattle.std.specs.Prelude.{◌≡◌, List, [], map, Bool, ℕ}
 use Rattle.std.proofs.Math.Pow.{are_bytes}
 use Rattle.bench.specs.declared.Answer.TheVariants.{Accepted}

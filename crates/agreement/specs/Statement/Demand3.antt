@@ -1,5 +1,5 @@
 -- Demand 3 as one statement, over every list of calls on an opened bench, each call by the rules of now or by those
--- before request C-15, mixed in any order. The theorem is in ../Theorem.antt.
+-- before request C-15, mixed in any order. The theorem is in ../../proofs/Theorem.antt.
 use Rattle.std.specs.Prelude.{◌≡◌, ◌≢◌, List, [], ◌++◌, true, false, ℕ, suc, ◌+◌, ◌-◌, ◌*◌, ◌≤◌, ◌<◌, length, drop}
 use Rattle.std.proofs.Math.Option.{none, some, IsSome}
 use Rattle.std.proofs.Math.Pow.{are_bytes}
@@ -51,7 +51,7 @@ pub record Demand3 (n t : ℕ) (calls : List Call) : Type 0 where
   -- a: the bench left is where the protocol steps take the opened one over the whole history, and each call gave what
   -- the rules give where the history before it leads: on both sides a call is worked by `given_by`, here on the bench that
   -- the calls before it left, there on the one to which their history leads. That a call of form v2 does what `given_by`
-  -- says is its contract (../histories/Contracts.antt), and that a run so said is document 01's loop is the law
+  -- says is its contract (../Histories/Contracts.antt), and that a run so said is document 01's loop is the law
   -- `run_loop` of bench
   pub bench : after_calls (opened_of n t) calls ≡ after_history n t (history n t [] calls)
   pub given : answers (opened_of n t) calls ≡ ruled n t [] calls

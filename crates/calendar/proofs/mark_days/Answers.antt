@@ -10,7 +10,7 @@ use Rattle.sets.specs.EveryLaws.{every_off, every-suc}
 use Rattle.sets.specs.Lists.{every}
 use Rattle.sets.specs.Truth.{◌and◌, less}
 use Rattle.calendar.specs.Calendar.{periods_in, well_formed, lies}
-use Rattle.calendar.specs.PassLaws.{mark_none, mark_more}
+use Rattle.calendar.proofs.PassLaws.{mark_none, mark_more}
 use Rattle.calendar.proofs.mark_days.Goals as goal
 
 pub loop-j-init : goal.loop-j-init

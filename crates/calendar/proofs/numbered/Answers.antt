@@ -12,9 +12,10 @@ use lib.ListN.{set, replicate, get_or-replicate}
 use Rattle.sets.specs.EachLaws.{each_done}
 use Rattle.sets.specs.Lists.{each, joined}
 use Rattle.calendar.specs.Calendar.{sites_to, how_many, numbering_of, process_of_site}
-use Rattle.calendar.specs.NumberingLaws.{in_set, many_zero, many_on, many_off}
-use Rattle.calendar.specs.NumberingLaws.{stored_on, stored_off, stored_all}
-use Rattle.calendar.specs.NumberingLaws.{numbers_on, numbers_off}
+use Rattle.calendar.specs.NumberingLaws.{in_set}
+use Rattle.calendar.proofs.NumberingLaws.{many_zero, many_on, many_off}
+use Rattle.calendar.proofs.NumberingLaws.{stored_on, stored_off, stored_all}
+use Rattle.calendar.proofs.NumberingLaws.{numbers_on, numbers_off}
 use Rattle.calendar.proofs.numbered.Invariants.{zeros}
 use Rattle.calendar.proofs.numbered.Goals.{then-member, else-member}
 use Rattle.calendar.proofs.numbered.Goals as goal

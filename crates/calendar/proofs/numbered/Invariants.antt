@@ -4,8 +4,8 @@ use mathlib.Core.List.{List}
 use lib.ListN.{replicate}
 use Rattle.calendar.specs.Calendar.{how_many}
 use Rattle.calendar.specs.NumberingLaws.{in_set}
-use Rattle.calendar.specs.NumberingLaws.{stored_to}
-use Rattle.calendar.specs.NumberingLaws.{numbers_to}
+use Rattle.calendar.proofs.NumberingLaws.{stored_to}
+use Rattle.calendar.proofs.NumberingLaws.{numbers_to}
 use Rattle.calendar.proofs.numbered.Given as goal
 
 abbrev pub zeros : List ℕ

@@ -1,6 +1,6 @@
 -- A well-formed record's kind and site are at least 1.
 use mathlib.Core.Path.{refl}
-use Rattle.calendar.specs.PassLaws.{slot}
+use Rattle.calendar.proofs.PassLaws.{slot}
 use Rattle.calendar.proofs.slot_of.Goals as goal
 
 pub overflow_sub-result : goal.overflow_sub-result

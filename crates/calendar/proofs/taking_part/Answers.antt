@@ -6,7 +6,8 @@ use Prim.Native.Nat.{◌-◌}
 use native.Mathlib.Nat.{le_antisymm}
 use borrow.Author.Rules.{rules}
 use Rattle.sets.specs.TruthLaws.{same_mk, same_off}
-use Rattle.calendar.specs.PassLaws.{collect_none, collect_on, collect_off, some_day}
+use Rattle.calendar.specs.PassLaws.{some_day}
+use Rattle.calendar.proofs.PassLaws.{collect_none, collect_on, collect_off}
 use Rattle.calendar.proofs.taking_part.Goals.{then-difference-ne0, else-difference-ne0}
 use Rattle.calendar.proofs.taking_part.Goals as goal
 

@@ -2,8 +2,8 @@
 use mathlib.Core.Path.{sym, ◌∙◌, ap}
 use Rattle.sets.specs.TruthLaws.{same_mk, same_off, not_on, not_off}
 use Rattle.calendar.specs.Calendar.{answered_by}
-use Rattle.calendar.specs.NumberingLaws.{in_set_lem, numbering_cong}
-use Rattle.calendar.specs.PassLaws.{part_in, nobody, somebody}
+use Rattle.calendar.proofs.NumberingLaws.{in_set_lem, numbering_cong}
+use Rattle.calendar.proofs.PassLaws.{part_in, nobody, somebody}
 use Rattle.calendar.specs.RefusalLaws.{partial_13, record_13, nobody_14, answered}
 use Rattle.calendar.proofs.week.Goals as goal
 

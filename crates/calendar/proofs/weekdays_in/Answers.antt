@@ -1,5 +1,5 @@
 -- The weekdays before the end of the record, without those before its beginning.
-use Rattle.calendar.specs.PassLaws.{weekdays}
+use Rattle.calendar.proofs.PassLaws.{weekdays}
 use Rattle.calendar.proofs.weekdays_in.Goals as goal
 
 pub returns : goal.returns

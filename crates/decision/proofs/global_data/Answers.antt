@@ -6,7 +6,7 @@ use native.Mathlib.Omega.{arith}
 use Rattle.sets.specs.TruthLaws.{and_first, and_second, less_on}
 use Rattle.bench.specs.State.{process_at}
 use Rattle.bench.specs.Sound.{sound_of}
-use Rattle.bench.specs.SoundLaws.{sound_on}
+use Rattle.bench.proofs.SoundLaws.{sound_on}
 use Rattle.sets.specs.Truth.{one_to}
 use Rattle.bench.specs.CallLaws.{show_damaged, show_unknown, show_short}
 use Rattle.bench.specs.CallLaws.{show_undecided, show_decided, show_refused, show_shown}

@@ -7,7 +7,7 @@ use lib.ListN.{length-set}
 use borrow.Author.Rules.{rules}
 use Rattle.sets.specs.Set.{difference_of}
 use Rattle.sets.specs.LowestLaws.{lowest_in, lowest_lt, rest_less}
-use Rattle.global_data.specs.Laws.{words_from, fill_words, words_more, words_none}
+use Rattle.global_data.proofs.Laws.{words_from, fill_words, words_more, words_none}
 use Rattle.global_data.proofs.fill_words.Goals.{After-rest-left}
 use Rattle.global_data.proofs.fill_words.Goals as goal
 

@@ -2,7 +2,7 @@ use mathlib.Core.Path.{◌≡◌}
 use Prim.Native.Nat.{◌^◌, ◌<◌}
 use lib.ListN.{length}
 use Rattle.sets.specs.Set.{difference_of}
-use Rattle.global_data.specs.Laws.{words_from}
+use Rattle.global_data.proofs.Laws.{words_from}
 use Rattle.global_data.proofs.fill_words.Given as goal
 
 abbrev pub invariant-loop-left : goal.invariant-loop-left

@@ -6,7 +6,7 @@ use lib.ListN.{get_or, length}
 use Rattle.bench.specs.Record.{parts_of, check_diet, decode_of}
 use Rattle.bench.specs.declared.Decoded.{Decoded}
 use Rattle.bench.specs.Record.{value_of}
-use Rattle.bench.specs.RecordLaws.{decode_size, decode_parts}
+use Rattle.bench.proofs.RecordLaws.{decode_size, decode_parts}
 use Rattle.records.proofs.decode.Goals as goal
 
 -- the parts of eight bytes, with their value as it was computed

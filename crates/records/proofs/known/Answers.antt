@@ -5,7 +5,7 @@ use Rattle.sets.specs.Truth.{◌or◌, same}
 use Rattle.sets.specs.TruthLaws.{not_on, not_off}
 use Rattle.global_data.specs.GlobalData.{value_in, diet_fits}
 use Rattle.bench.specs.Record.{fields}
-use Rattle.bench.specs.RecordLaws.{checked_unfit, checked_diet, checked_got}
+use Rattle.bench.proofs.RecordLaws.{checked_unfit, checked_diet, checked_got}
 use Rattle.records.proofs.known.Goals as goal
 
 pub returns-then-not-fields_ok : goal.returns-then-not-fields_ok

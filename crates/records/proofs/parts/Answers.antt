@@ -5,7 +5,7 @@ use native.Mathlib.Omega.{arith}
 use Rattle.sets.specs.Truth.{one_to}
 use Rattle.sets.specs.TruthLaws.{one_mk, and_off_l, and_off_r, less_off, le-or}
 use Rattle.bench.specs.Record.{check_diet}
-use Rattle.bench.specs.RecordLaws.{parts_unknown, diet_refused}
+use Rattle.bench.proofs.RecordLaws.{parts_unknown, diet_refused}
 use Rattle.records.proofs.parts.Goals as goal
 
 pub returns-in-1 : goal.returns-in-1

@@ -13,7 +13,7 @@ use lib.Dec.{lit<}
 use borrow.Author.Rules.{rules, Fits-under, scaled_Fits}
 use Rattle.sets.specs.TruthLaws.{not_on, and_on_r, and_off_r}
 use Rattle.global_data.specs.GlobalData.{no_data, fill_of, same_to}
-use Rattle.global_data.specs.PassLaws.{passing_new, passing_lt, passing_skip, passing_more, passing_long}
+use Rattle.global_data.proofs.PassLaws.{passing_new, passing_lt, passing_skip, passing_more, passing_long}
 use Rattle.global_data.specs.contracts.GlobalData as row
 use Rattle.process.specs.Fields.{with_estimate}
 use Rattle.process.specs.Steps.{no_process}
@@ -24,11 +24,12 @@ use Rattle.bench.specs.declared.Decoded.TheVariants.{Got}
 use Rattle.bench.specs.State.{process_at, transit_at, with_process}
 use Rattle.bench.specs.Sound.{sound_data, sound_of}
 use Rattle.bench.specs.EveryInLaws.{tested_none, tested_more, tested_all}
-use Rattle.bench.specs.SoundLaws.{sound_parts, parts_small, sound_off, sound_rows, sound_on}
-use Rattle.bench.specs.RecordLaws.{MessageIn}
+use Rattle.bench.specs.SoundLaws.{sound_parts}
+use Rattle.bench.proofs.SoundLaws.{parts_small, sound_off, sound_rows, sound_on}
+use Rattle.bench.proofs.RecordLaws.{MessageIn}
 use Rattle.bench.specs.Refuse.{refuses}
 use Rattle.bench.specs.RunLoop.{ended_of}
-use Rattle.bench.specs.RunLaws.{run_damaged}
+use Rattle.bench.proofs.RunLaws.{run_damaged}
 use Rattle.run.specs.Turns.{running_new, Turn, ends_empty, ends_spent, ends_short, ends_unread}
 use Rattle.run.specs.Turns.{ends_by_lem, goes, Low, turn_sizes, turn_round, turn_last, turn_less, turn_low}
 use Rattle.run.specs.Turns.{slot_low, word_low, number_low, message_low, start_round, close_started}

@@ -2,7 +2,7 @@ use mathlib.Core.Path.{◌≡◌}
 use Prim.Native.Nat.{◌-◌, ◌/◌, ◌%◌, ◌≤◌}
 use lib.ListN.{length}
 use Rattle.sets.specs.Set.{remove_of}
-use Rattle.global_data.specs.PassLaws.{Passing}
+use Rattle.global_data.proofs.PassLaws.{Passing}
 use Rattle.global_data.specs.contracts.GlobalData as row
 use Rattle.bench.specs.Sound.{sound_data}
 use Rattle.bench.specs.EveryInLaws.{Tested}

@@ -1,6 +1,6 @@
 -- Soundness in its two parts: all but the rows, then the rows.
 use mathlib.Core.Path.{sym, ◌∙◌}
-use Rattle.bench.specs.SoundLaws.{parts_small, sound_off, sound_rows}
+use Rattle.bench.proofs.SoundLaws.{parts_small, sound_off, sound_rows}
 use Rattle.soundness.proofs.is_sound.Goals as goal
 
 pub returns-then-not-parts_sound : goal.returns-then-not-parts_sound

@@ -5,7 +5,8 @@ use Prim.Native.Nat.{◌≤◌}
 use native.Mathlib.Omega.{arith}
 use Rattle.sets.specs.TruthLaws.{and_on_l, and_off_l}
 use Rattle.bench.specs.Sound.{opens}
-use Rattle.bench.specs.SoundLaws.{sound_parts, open_few}
+use Rattle.bench.specs.SoundLaws.{sound_parts}
+use Rattle.bench.proofs.SoundLaws.{open_few}
 use Rattle.sets.specs.Tests.{both_are}
 use Rattle.soundness.proofs.parts_sound.Goals.{Else-not-sizes_open}
 use Rattle.soundness.proofs.parts_sound.Goals as goal

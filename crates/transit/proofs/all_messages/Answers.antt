@@ -6,7 +6,8 @@ use native.Mathlib.Omega.{arith}
 use lib.ListN.{length}
 use borrow.Author.Rules.{rules}
 use Rattle.sets.specs.Lists.{joined}
-use Rattle.bench.specs.TransitLaws.{round_bytes, sum_more}
+use Rattle.bench.specs.TransitLaws.{round_bytes}
+use Rattle.bench.proofs.TransitLaws.{sum_more}
 use Rattle.transit.proofs.all_messages.Goals as goal
 
 pub loop-r-init : goal.loop-r-init

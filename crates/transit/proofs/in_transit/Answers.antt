@@ -9,8 +9,8 @@ use Rattle.bench.specs.declared.Listed.TheVariants.{Count}
 use Rattle.bench.specs.TransitList.{transit_bytes}
 use Rattle.bench.specs.CallLaws.{list_damaged, list_short, list_fits, list_refused, list_listed}
 use Rattle.bench.specs.Sound.{sound_of}
-use Rattle.bench.specs.SoundLaws.{sound_on}
-use Rattle.bench.specs.TransitLaws.{transit_by, stores_front}
+use Rattle.bench.proofs.SoundLaws.{sound_on}
+use Rattle.bench.proofs.TransitLaws.{transit_by, stores_front}
 use Rattle.transit.proofs.in_transit.Goals.{After-all_messages-messages, Else-not-is_sound}
 use Rattle.transit.proofs.in_transit.Goals as goal
 

@@ -5,7 +5,8 @@ use native.Mathlib.Nat.{le_antisymm}
 use native.Mathlib.Omega.{arith}
 use borrow.Author.Rules.{rules}
 use Rattle.sets.specs.Lists.{joined}
-use Rattle.bench.specs.TransitLaws.{round_bytes, stores_none, stores_length, stores_more, stores_room}
+use Rattle.bench.specs.TransitLaws.{round_bytes}
+use Rattle.bench.proofs.TransitLaws.{stores_none, stores_length, stores_more, stores_room}
 use Rattle.transit.proofs.put_all.Goals as goal
 
 pub put_round-place-requires : goal.put_round-place-requires

@@ -5,7 +5,7 @@ use Prim.Native.Nat.{◌+◌, ◌*◌}
 use native.Mathlib.Omega.{arith}
 use lib.ListN.{length, get_or, length-set}
 use Rattle.bench.specs.TransitList.{message_bytes}
-use Rattle.bench.specs.TransitLaws.{message_in, message_none, stores_none, stores_three}
+use Rattle.bench.proofs.TransitLaws.{message_in, message_none, stores_none, stores_three}
 use Rattle.transit.proofs.put_message.Goals.{Then-member}
 use Rattle.transit.proofs.put_message.Goals as goal
 

@@ -5,8 +5,9 @@ use native.Mathlib.Nat.{le_antisymm}
 use native.Mathlib.Omega.{arith}
 use borrow.Author.Rules.{rules}
 use Rattle.sets.specs.Lists.{joined}
-use Rattle.bench.specs.TransitLaws.{sender_bytes, round_bytes, stores_none}
-use Rattle.bench.specs.TransitLaws.{stores_length, stores_more, stores_room}
+use Rattle.bench.specs.TransitLaws.{sender_bytes, round_bytes}
+use Rattle.bench.proofs.TransitLaws.{stores_none}
+use Rattle.bench.proofs.TransitLaws.{stores_length, stores_more, stores_room}
 use Rattle.transit.proofs.put_round.Goals as goal
 
 pub put_set-place-requires : goal.put_set-place-requires

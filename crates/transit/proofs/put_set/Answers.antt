@@ -7,7 +7,8 @@ use lib.ListN.{get_or}
 use borrow.Author.Rules.{rules}
 use Rattle.sets.specs.Lists.{joined}
 use Rattle.bench.specs.TransitList.{message_bytes}
-use Rattle.bench.specs.TransitLaws.{sender_bytes, stores_none, stores_length, stores_more, stores_room}
+use Rattle.bench.specs.TransitLaws.{sender_bytes}
+use Rattle.bench.proofs.TransitLaws.{stores_none, stores_length, stores_more, stores_room}
 use Rattle.transit.proofs.put_set.Goals as goal
 
 pub put_message-place-requires : goal.put_message-place-requires

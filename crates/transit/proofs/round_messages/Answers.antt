@@ -7,7 +7,8 @@ use lib.ListN.{length, get_or}
 use borrow.Author.Rules.{rules}
 use Rattle.sets.specs.Laws.{size_most}
 use Rattle.sets.specs.Lists.{joined}
-use Rattle.bench.specs.TransitLaws.{sender_bytes, round_bytes, sum_more, size_length}
+use Rattle.bench.specs.TransitLaws.{sender_bytes, round_bytes}
+use Rattle.bench.proofs.TransitLaws.{sum_more, size_length}
 use Rattle.transit.proofs.round_messages.Goals.{After-size}
 use Rattle.transit.proofs.round_messages.Goals as goal
 

@@ -7,7 +7,7 @@ use native.Mathlib.Numerals.{add-one}
 use borrow.Author.Rules.{rules}
 use Rattle.sets.specs.Lists.{every}
 use Rattle.sets.specs.Truth.{◌and◌}
-use Rattle.global_data.specs.Laws.{marks, same_unmarked, same_words_marked}
+use Rattle.global_data.proofs.Laws.{marks, same_unmarked, same_words_marked}
 use Rattle.global_data.proofs.GlobalData.same.Goals.{After-intersection}
 use Rattle.global_data.proofs.GlobalData.same.Goals as goal
 

@@ -1,7 +1,7 @@
 use mathlib.Core.Path.{◌≡◌}
 use Prim.Native.Nat.{◌≤◌, ◌-◌}
 use Rattle.sets.specs.Lists.{every}
-use Rattle.global_data.specs.Laws.{marks, words_same}
+use Rattle.global_data.proofs.Laws.{marks, words_same}
 use Rattle.global_data.proofs.GlobalData.same.Given as goal
 
 abbrev pub invariant-loop-k : goal.invariant-loop-k

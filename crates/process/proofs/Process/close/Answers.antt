@@ -8,8 +8,8 @@ use native.Mathlib.Omega.{arith}
 use lib.Dec.{lit<}
 use borrow.Author.Rules.{rules, Fits-under, scaled_Fits}
 use Rattle.sets.specs.TruthLaws.{and_on_r, and_off_r}
-use Rattle.global_data.specs.PassLaws.{passing_new, passing_lt, passing_skip, passing_more, passing_long}
-use Rattle.process.specs.ClosingLaws.{close_passed}
+use Rattle.global_data.proofs.PassLaws.{passing_new, passing_lt, passing_skip, passing_more, passing_long}
+use Rattle.process.proofs.ClosingLaws.{close_passed}
 use Rattle.process.proofs.Process.close.Goals.{In-loop-left}
 use Rattle.process.proofs.Process.close.Goals.{then-left-eq1+then-alike, then-left-eq1+else-alike, else-left-eq1}
 use Rattle.process.proofs.Process.close.Goals as goal

@@ -1,6 +1,6 @@
 use Rattle.sets.specs.Set.{remove_of}
 use Rattle.global_data.specs.GlobalData.{rows_of}
-use Rattle.global_data.specs.PassLaws.{Passing}
+use Rattle.global_data.proofs.PassLaws.{Passing}
 use Rattle.process.proofs.Process.close.Given as goal
 
 abbrev pub invariant-loop-left : goal.invariant-loop-left

@@ -15,7 +15,7 @@ use Rattle.process.specs.declared.Closing.{Closing}
 use Rattle.process.specs.declared.Closing.TheVariants.{None, LastRound}
 use Rattle.process.specs.Steps.{no_process, has_decided, takes_part, agreed_of, closing_of, closing_number, opens_next}
 use Rattle.process.specs.Steps.{close_of}
-use Rattle.process.specs.ClosingLaws.{closing_last, next_undecided}
+use Rattle.process.proofs.ClosingLaws.{closing_last, next_undecided}
 use Rattle.bench.specs.declared.Bench.{Bench}
 use Rattle.bench.specs.declared.Event.{Event}
 use Rattle.bench.specs.declared.Event.TheVariants.{Start, Send, Arrive, Close, Crash, Suspect}
@@ -23,11 +23,11 @@ use Rattle.bench.specs.declared.Decoded.{Decoded}
 use Rattle.bench.specs.declared.Decoded.TheVariants.{Got, Refused}
 use Rattle.bench.specs.State.{process_at, with_process, with_sent}
 use Rattle.bench.specs.Record.{message_from, event_of, decode_of, decode_as}
-use Rattle.bench.specs.RecordLaws.{InRange, decode_from, decode_range}
+use Rattle.bench.proofs.RecordLaws.{InRange, decode_from, decode_range}
 use Rattle.bench.specs.Sound.{sound_of}
-use Rattle.bench.specs.SoundLaws.{sound_on}
+use Rattle.bench.proofs.SoundLaws.{sound_on}
 use Rattle.bench.specs.Refuse.{passes7, refusal}
-use Rattle.bench.specs.RefuseLaws.{accepted, accepted_effect}
+use Rattle.bench.proofs.RefuseLaws.{accepted, accepted_effect}
 use Rattle.bench.specs.Effect.{rows_at, opens_round, closes_as, effect}
 use Rattle.bench.specs.RunLoop.{effect_decoded, effect_by, effect_of}
 use Rattle.bench.specs.Closings.{closing_at, is_none, last_of}
@@ -36,7 +36,7 @@ use Rattle.bench.specs.Calls.{run_of, after_record}
 use Rattle.bench.specs.RunLoop.{ended_of}
 use Rattle.bench.specs.LastLaws.{none_is}
 use Rattle.bench.specs.OneByOne.{rest_at, record_at, steps}
-use Rattle.bench.specs.RunLaws.{rest_next, closing_to, run_sound, runs}
+use Rattle.bench.proofs.RunLaws.{rest_next, closing_to, run_sound, runs}
 
 -- ---- one record. A close always has one; of the events by their kinds, a close alone
 pub close_some : (n t a : ℕ) (rows : ℕ → GlobalData) (p : Process) → is_none (closing_of n t a rows p) ≡ false

@@ -21,7 +21,7 @@ use Rattle.agreement.specs.Invariants.QuietEnd.{Least, least_or}
 use Rattle.agreement.specs.Bridge.BenchView.{view_of, opened_view}
 use Rattle.agreement.specs.Histories.OneEvent.{decision_off, decision_on}
 use Rattle.agreement.specs.Histories.InvariantsHold.{Along, Further}
-use Rattle.agreement.specs.Histories.HistoryMatchesBench.{Told}
+use Rattle.agreement.proofs.Histories.HistoryMatchesBench.{Told}
 
 -- a decided process whose absent entries are of processes that crashed before the first decision
 pub record First (n t : ℕ) (h : List Event) : Type 0 where

@@ -27,7 +27,7 @@ use Rattle.aggregates.specs.declared.Leader.{Leader}
 use Rattle.aggregates.specs.declared.Leader.TheVariants.{Nobody, Leads}
 use Rattle.aggregates.specs.Leader.{better, candidate, candidates, is_greatest, first_in, leader_to}
 use Rattle.aggregates.specs.Search.{contend, with_entry}
-use Rattle.aggregates.specs.Comparison.{Behind, better_off, behind_off, better_self, better_over, better_one}
+use Rattle.aggregates.proofs.Comparison.{Behind, better_off, behind_off, better_self, better_over, better_one}
 
 -- ---- the greatest of a list
 

@@ -14,8 +14,8 @@ use Rattle.global_data.specs.declared.GlobalData.{GlobalData}
 use Rattle.global_data.specs.declared.Entry.{Entry}
 use Rattle.global_data.specs.declared.Entry.TheVariants.{Absent, Value}
 use Rattle.global_data.specs.GlobalData.{portions_of, diet_of, value_in, entry_of, nothing_of, one_of, fill_of, no_data}
-use Rattle.global_data.specs.Laws.{entry_present, entry_absent, not_both, value_present, absent_or, entry_nothing}
-use Rattle.global_data.specs.Laws.{entry_one, or_entry_absent, or_entry_value, entry_fill, fill_from_ind}
+use Rattle.global_data.proofs.Laws.{entry_present, entry_absent, not_both, value_present, absent_or, entry_nothing}
+use Rattle.global_data.proofs.Laws.{entry_one, or_entry_absent, or_entry_value, entry_fill, fill_from_ind}
 use Rattle.global_data.specs.WordLaws.{plain_word, value_word}
 use Rattle.process.specs.declared.Process.{Process}
 use Rattle.process.specs.Steps.{no_process, idle_of, has_decided, takes_part, keeps, peers_of, filled_of, decides_of}
@@ -28,8 +28,8 @@ use Rattle.bench.specs.declared.Event.{Event}
 use Rattle.bench.specs.declared.Event.TheVariants.{Start, Send, Arrive, Close, Crash, Suspect}
 use Rattle.bench.specs.State.{process_at, sent_at, with_process, with_sent, with_transit, with_crashed, opened_of}
 use Rattle.bench.specs.Sound.{sound_of}
-use Rattle.bench.specs.SoundLaws.{every_on, every_mk, each_set, each-replicate}
-use Rattle.bench.specs.RecordLaws.{InRange}
+use Rattle.bench.proofs.SoundLaws.{every_on, every_mk, each_set, each-replicate}
+use Rattle.bench.proofs.RecordLaws.{InRange}
 use Rattle.bench.specs.Effect.{opens_round, rows_at, sends, arrives, closes_as, effect}
 use Rattle.bench.specs.OldRules.{OldEntry, absent, number, old_entry_of}
 use Rattle.bench.specs.Carry.{plain_data, plain_process, plain_bench, carry_refusal, carry_of, plain_start}

@@ -23,9 +23,9 @@ use Rattle.bench.specs.declared.Decoded.{Decoded}
 use Rattle.bench.specs.declared.Decoded.TheVariants.{Got, Refused}
 use Rattle.bench.specs.State.{process_at}
 use Rattle.bench.specs.Sound.{sound_of}
-use Rattle.bench.specs.SoundLaws.{sound_effect}
+use Rattle.bench.proofs.SoundLaws.{sound_effect}
 use Rattle.bench.specs.Record.{Form, v1, v2, decode_as}
-use Rattle.bench.specs.RecordLaws.{InRange, read_refused, decode_refused, decode_read, read_range, read_from}
+use Rattle.bench.proofs.RecordLaws.{InRange, read_refused, decode_refused, decode_read, read_range, read_from}
 use Rattle.bench.specs.Refuse.{refuses, refuses_decoded, refusal_by, refusal}
 use Rattle.bench.specs.Effect.{rows_at, closes_as, effect}
 use Rattle.bench.specs.RunLoop.{effect_decoded, effect_by}

@@ -10,23 +10,23 @@ use Rattle.sets.specs.Truth.{◌and◌, select}
 use Rattle.sets.specs.TruthLaws.{Is, on, off, is, clash, select_on, select_off, and_first, and_second, and_cases}
 use Rattle.sets.specs.TruthLaws.{off_by, same_on, same_refl, less_mk, less-not, le-or}
 use Rattle.global_data.specs.GlobalData.{portions_of, diet_of, value_in, entry_of}
-use Rattle.global_data.specs.Laws.{entry_present, not_both, or_entry_absent, or_entry_value}
+use Rattle.global_data.proofs.Laws.{entry_present, not_both, or_entry_absent, or_entry_value}
 use Rattle.bench.specs.declared.Event.{Event}
 use Rattle.bench.specs.declared.Event.TheVariants.{Start, Send, Arrive, Close, Crash, Suspect}
 use Rattle.bench.specs.State.{process_at, sent_at}
-use Rattle.bench.specs.SoundLaws.{sound_on}
-use Rattle.bench.specs.RecordLaws.{InRange}
-use Rattle.bench.specs.RefuseLaws.{passes_on}
+use Rattle.bench.proofs.SoundLaws.{sound_on}
+use Rattle.bench.proofs.RecordLaws.{InRange}
+use Rattle.bench.proofs.RefuseLaws.{passes_on}
 use Rattle.bench.specs.Refuse.{passes7}
 use Rattle.bench.specs.Carry.{plain_bench, carry_refusal, plain_start}
-use Rattle.bench.specs.CarryLaws.{carry_large, carry_plain, PlainBench, bench_on, bench_mk, plain_opened, plain_effect}
+use Rattle.bench.proofs.CarryLaws.{carry_large, carry_plain, PlainBench, bench_on, bench_mk, plain_opened, plain_effect}
 use Rattle.bench.specs.Calls.{after_events}
 use Rattle.agreement.specs.Statement.History.{after_history, started_with}
 use Rattle.agreement.specs.Bridge.BenchView.{row_of, view_of}
 use Rattle.agreement.specs.Histories.Append.{started_append}
 use Rattle.agreement.specs.Histories.Replay.{Next, reached_next, reached_sizes, sizes_to}
 use Rattle.agreement.specs.Histories.InvariantsHold.{Along}
-use Rattle.agreement.specs.Histories.HistoryMatchesBench.{Told}
+use Rattle.agreement.proofs.Histories.HistoryMatchesBench.{Told}
 
 -- a process started with a value above 65,535
 pub record Large (h : List Event) : Type 0 where

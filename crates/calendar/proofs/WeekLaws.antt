@@ -15,8 +15,8 @@ use Rattle.sets.specs.TruthLaws.{le-or, eq-or, check-zero}
 use Rattle.calendar.specs.declared.Numbering.{Numbering}
 use Rattle.calendar.specs.Calendar.{takes_part_in, sites_to, how_many, process_of_site, site_of_process, numbering_of, week_refusal}
 use Rattle.calendar.specs.Calendar.{answered_by, week_of}
-use Rattle.calendar.specs.NumberingLaws.{length_sites, many_bound, many_on, many_le, Placed, placed}
-use Rattle.calendar.specs.NumberingLaws.{number_one}
+use Rattle.calendar.proofs.NumberingLaws.{length_sites, many_bound, many_on, many_le, Placed, placed}
+use Rattle.calendar.proofs.NumberingLaws.{number_one}
 
 -- the process of a site and the site of a process, as an answer has them; both are numbered from 1
 abbrev pub process_in : Numbering → ℕ → ℕ

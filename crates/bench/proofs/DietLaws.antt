@@ -21,11 +21,11 @@ use Rattle.bench.specs.declared.Decoded.TheVariants.{Got, Refused}
 use Rattle.bench.specs.State.{process_at, transit_at, crashed_at, bench_of}
 use Rattle.bench.specs.Sound.{sound_data, sound_process, sound_of}
 use Rattle.bench.specs.Record.{read_of, start_fits, check_diet, decode_of}
-use Rattle.bench.specs.RecordLaws.{diet_fit, diet_unfit, diet_refused, read_refused}
+use Rattle.bench.proofs.RecordLaws.{diet_fit, diet_unfit, diet_refused, read_refused}
 use Rattle.bench.specs.Record.{decode_as}
 use Rattle.bench.specs.Refuse.{refusal_by, refusal}
 use Rattle.bench.specs.Refuse.{passes7, passes8, passes9, refuses, refuses_decoded}
-use Rattle.bench.specs.RefuseLaws.{refusal_damaged, refusal_unread, refusal_event}
+use Rattle.bench.proofs.RefuseLaws.{refusal_damaged, refusal_unread, refusal_event}
 
 -- ---- 15, and the record that has it
 pub record TooMuchDiet (n t : ℕ) (bytes : List ℕ) : Type 0 where

@@ -16,7 +16,7 @@ use Rattle.bench.specs.declared.Decoded.TheVariants.{Got, Refused}
 use Rattle.bench.specs.State.{crashed_at}
 use Rattle.bench.specs.Sound.{sound_of}
 use Rattle.bench.specs.Record.{decode_of, v2, decode_as}
-use Rattle.bench.specs.RecordLaws.{InRange, decode_from, decode_refused, decode_range}
+use Rattle.bench.proofs.RecordLaws.{InRange, decode_from, decode_refused, decode_range}
 use Rattle.sets.specs.Truth.{less}
 use Rattle.bench.specs.Refuse.{actor, is_crash, passes7, passes8, passes9, refuses, refuses_decoded, refusal_by}
 use Rattle.bench.specs.Refuse.{refusal}

@@ -13,8 +13,8 @@ use Rattle.bench.specs.Refuse.{refusal_by}
 use Rattle.bench.specs.Calls.{answer_of, accepted_one, after_events, closing_from, accepted_in, tally_by, cause_of}
 use Rattle.bench.specs.Carry.{plain_start, rewritten_record, rewritten_schedule}
 use Rattle.bench.specs.EveryInLaws.{bytes_every}
-use Rattle.bench.specs.RewriteLaws.{Bytes, every_split, bytes_rest, rewritten-refuses, rewritten_one, rewritten_tally}
-use Rattle.bench.specs.RewriteLaws.{drop_many, rewritten-run, rewritten_cause}
+use Rattle.bench.proofs.RewriteLaws.{Bytes, every_split, bytes_rest, rewritten-refuses, rewritten_one, rewritten_tally}
+use Rattle.bench.proofs.RewriteLaws.{drop_many, rewritten-run, rewritten_cause}
 use Rattle.agreement.specs.Statement.History.{Call, step, run, stepped, ran, after_call, given_by}
 use Rattle.agreement.specs.Statement.History.{after_calls, answers, after_history, accepted_by, add_call, history}
 use Rattle.agreement.specs.Statement.Carrying.{as_old, rewritten, rewritten_rest, takes_bytes}

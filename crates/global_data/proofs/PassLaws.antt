@@ -16,9 +16,9 @@ use Rattle.sets.specs.TruthLaws.{same_off}
 use Rattle.sets.specs.TruthLaws.{le-or}
 use Rattle.global_data.specs.declared.GlobalData.{GlobalData}
 use Rattle.global_data.specs.GlobalData.{entry_of, fill_of, fill_from, same_to, all_same}
-use Rattle.global_data.specs.Laws as laws
-use Rattle.global_data.specs.Laws.{absent_or, fill_from_on, fill_from_off, fill_from-length, fill_absent}
-use Rattle.global_data.specs.Laws.{fill_keeps, all_same_on, all_same_mk}
+use Rattle.global_data.proofs.Laws as laws
+use Rattle.global_data.proofs.Laws.{absent_or, fill_from_on, fill_from_off, fill_from-length, fill_absent}
+use Rattle.global_data.proofs.Laws.{fill_keeps, all_same_on, all_same_mk}
 
 -- ---- one pass is enough, for any set of members, any rows and any n; past 16 there are no entries
 module _ (n p m : ℕ) (rows : ℕ → GlobalData) (g : GlobalData) (few : n ≤ 16) where

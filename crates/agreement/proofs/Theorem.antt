@@ -1,8 +1,8 @@
 -- Demand 3, proved: after the history of any list of calls the bench has every invariant and holds what the history
 -- tells, and each part of the demand is read off that one state.
-use Rattle.std.specs.Prelude.{◌≡◌, refl, ◌≢◌, List, [], ◌∷◌, ◌++◌, map, true, false, ℕ, suc, ◌+◌, ◌-◌, ◌*◌, ◌^◌, ◌≤◌, ◌<◌, length, get_or, drop}
+use Rattle.std.specs.Prelude.{◌≡◌, refl, ◌≢◌, List, [], ◌∷◌, ◌++◌, true, false, ℕ, suc, ◌+◌, ◌-◌, ◌*◌, ◌^◌, ◌≤◌, ◌<◌, length, get_or, drop}
 use Rattle.std.proofs.Math.Path.{sym, ap}
-use Rattle.std.proofs.Common.{ap₂, ◌∙◌}
+use Rattle.std.proofs.Common.{◌∙◌}
 use Rattle.std.proofs.Math.Option.{Option, none, some, Option-elim, IsSome}
 use native.Mathlib.Omega.{arith}
 use Rattle.std.proofs.Math.Pow.{are_bytes}
@@ -10,30 +10,27 @@ use Rattle.sets.specs.Set.{has}
 use Rattle.sets.specs.Laws.{size_count}
 use Rattle.sets.specs.Lists.{count_to, each, every_in}
 use Rattle.sets.specs.Truth.{select}
-use Rattle.sets.specs.TruthLaws.{Is, on, off, is, clash, select_on, same_mk as number_same}
+use Rattle.sets.specs.TruthLaws.{Is, on, off, is, clash}
 use Rattle.global_data.specs.declared.GlobalData.{GlobalData}
 use Rattle.global_data.specs.declared.Entry.TheVariants.{Absent, Value}
 use Rattle.global_data.specs.GlobalData.{value_in, entry_of, same_to}
-use Rattle.global_data.specs.Laws.{entry_present, entry_absent, value_present, absent_clear, same_mk}
+use Rattle.global_data.proofs.Laws.{entry_present, entry_absent, value_present, absent_clear, same_mk}
 use Rattle.process.specs.Steps.{has_decided}
 use Rattle.bench.specs.declared.Shown.TheVariants.{Marks, Refused}
-use Rattle.bench.specs.declared.Bench.{Bench}
-use Rattle.bench.specs.declared.Answer.{Answer}
-use Rattle.bench.specs.declared.Carried.{Carried}
 use Rattle.bench.specs.declared.Event.{Event}
 use Rattle.bench.specs.State.{process_at, crashed_at, opened_of}
 use Rattle.bench.specs.Sound.{opens}
-use Rattle.bench.specs.SoundLaws.{sound_on}
+use Rattle.bench.proofs.SoundLaws.{sound_on}
 use Rattle.bench.specs.Refuse.{refusal}
 use Rattle.bench.specs.Record.{is_kind}
-use Rattle.bench.specs.Calls.{refused, answer_of, after_events, word_at, show_of, shown_in}
-use Rattle.agreement.specs.Statement.History.{Call, after_calls, answers, after_history, history}
+use Rattle.bench.specs.Calls.{refused, after_events, word_at, show_of, shown_in}
+use Rattle.agreement.specs.Statement.History.{Call, after_calls, after_history, history}
 use Rattle.agreement.specs.Statement.History.{outcome, before_decision, started_with, crashed_in, crash_count}
 use Rattle.agreement.specs.Statement.History.{rounds}
 use Rattle.bench.specs.Carry.{carry_of, carry_refusal, plain_start}
-use Rattle.bench.specs.OldRulesLaws.{refused_now}
+use Rattle.bench.proofs.OldRulesLaws.{refused_now}
 use Rattle.agreement.specs.Statement.Demand3.{Holds, Demand3}
-use Rattle.agreement.specs.Statement.Carrying.{as_old, takes_bytes, Carrying, Across}
+use Rattle.agreement.specs.Statement.Carrying.{Across}
 use Rattle.agreement.specs.Histories.Replay.{Next, along, sizes_to, sizes_from, replay}
 use Rattle.agreement.specs.Invariants.Safety.{Good}
 use Rattle.agreement.specs.Invariants.Agreement.{agree, valid, rounds_crashes}
@@ -44,10 +41,9 @@ use Rattle.agreement.specs.Bridge.EveryEvent.{still_view}
 use Rattle.agreement.specs.Histories.Append.{is_decided}
 use Rattle.agreement.specs.Histories.OneEvent.{decision_got, decision_none}
 use Rattle.agreement.specs.Histories.InvariantsHold.{Along, along_opened, along_next}
-use Rattle.agreement.specs.Histories.HistoryMatchesBench.{Told, told_opened, told_next}
-use Rattle.agreement.specs.Histories.AbsentCrashed.{Decided, first_opened, first_next, decided_is}
-use Rattle.agreement.specs.Histories.PlainStarts.{Starts, starts_opened, starts_next, carry_history}
-use Rattle.agreement.specs.Histories.RewrittenCalls.{AlikeFrom, calls_alike}
+use Rattle.agreement.proofs.Histories.HistoryMatchesBench.{Told, told_opened, told_next}
+use Rattle.agreement.proofs.Histories.AbsentCrashed.{Decided, first_opened, first_next, decided_is}
+use Rattle.agreement.proofs.Histories.PlainStarts.{Starts, starts_opened, starts_next, carry_history}
 use Rattle.agreement.specs.Histories.GlobalDataCall.{shows_decided, hides_undecided}
 use Rattle.agreement.specs.Bridge.RefusedBytes.{refused_events}
 
@@ -221,29 +217,13 @@ demand3 n t calls o =
     }
 
 -- ---- carrying a running week over (request C-17): what any calls left is refused by 16 exactly where a start in their
--- history has a value above 65,535; the calls do the same on a new bench, and what they left is accepted; and demand 3
--- goes on with the bench that carrying gave
+-- history has a value above 65,535; and demand 3 goes on with the bench that carrying gave (that the calls do the same
+-- on a new bench, and what they left is accepted: Carrying.antt)
 pub carry_answers : (n t : ℕ) (calls : List Call) → opens n t ≡ true
     → carry_refusal (after_calls (opened_of n t) calls) ≡ select (every_in plain_start (history n t [] calls)) 0 16
 carry_answers n t calls o =
     let A = account n t o calls in
     rw (come_to n t calls) (carry_history n t _ A.along_it A.told A.starts)
-
-carried_of : Answer → Bench → Carried
-carried_of a s = record { answer = a; bench = s }
-
-pub carrying : (n t : ℕ) (calls : List Call) → opens n t ≡ true → every_in takes_bytes calls ≡ true
-    → every_in plain_start (history n t [] (map as_old calls)) ≡ true → Carrying n t calls
-unfolding after_history after_events carry_of answer_of carried_of
-carrying n t calls o b p =
-    let A : AlikeFrom (opened_of n t) calls = calls_alike n t [] calls b p in
-    let z = carry_answers n t (map as_old calls) o ∙ select_on _ _ _ p in
-    record {
-      carries =
-          ap₂ carried_of
-          (select_on _ _ _ (number_same (carry_refusal (after_calls (opened_of n t) (map as_old calls))) 0 z)) A.bench;
-      given = A.given;
-    }
 
 pub across : (n t : ℕ) (old new : List Call) → opens n t ≡ true → Across n t old new
 unfolding carry_of

@@ -20,13 +20,13 @@ use Rattle.bench.specs.declared.Decoded.TheVariants.{Got, Refused}
 use Rattle.bench.specs.Record.{word_of, uses_b, is_kind, fields, event_of, parts_of, value_of, read_of}
 use Rattle.bench.specs.Record.{start_fits, check_diet, decode_of, Form, v1, v2, decode_as}
 use Rattle.bench.specs.Sound.{sound_of}
-use Rattle.bench.specs.SoundLaws.{every_on}
-use Rattle.bench.specs.RecordLaws.{From, diet_fit, diet_refused, read_from}
+use Rattle.bench.proofs.SoundLaws.{every_on}
+use Rattle.bench.proofs.RecordLaws.{From, diet_fit, diet_refused, read_from}
 use Rattle.bench.specs.Refuse.{actor, is_crash, passes7, passes8, passes9, refuses, refuses_decoded, refusal_by}
 use Rattle.bench.specs.Effect.{effect}
 use Rattle.bench.specs.Calls.{accepted_one, accepted_in, tallied, tally_by, cause_of}
-use Rattle.bench.specs.OldRulesLaws.{taken}
-use Rattle.bench.specs.RunLaws.{dropped, none_accepted, one_accepted, in_refused, in_from, in_accepted}
+use Rattle.bench.proofs.OldRulesLaws.{taken}
+use Rattle.bench.proofs.RunLaws.{dropped, none_accepted, one_accepted, in_refused, in_from, in_accepted}
 use Rattle.bench.specs.Carry.{plain_start, rewritten_record, rewritten_to, rewritten_schedule}
 
 -- a start with a value of at most 65,535, or another record

@@ -17,7 +17,7 @@ use Rattle.aggregates.specs.Entries.{entry_at, standing_at, counts_for}
 use Rattle.aggregates.specs.Leader.{leader_to}
 use Rattle.aggregates.specs.Aggregates.{refusal_of, unless, total_to, go, led}
 use Rattle.aggregates.specs.Aggregates.{changed, total_of, go_of, lead_of, change_of}
-use Rattle.aggregates.specs.TotalLaws.{counts_is}
+use Rattle.aggregates.proofs.TotalLaws.{counts_is}
 
 -- as many words, the same where a test holds
 pub record Alike (read : ℕ → Bool) (xs ys : List ℕ) : Type 0 where

@@ -12,16 +12,16 @@ use Rattle.sets.specs.TruthLaws.{select_on, same_refl, off_by, or_off_r, le-or}
 use Rattle.global_data.specs.declared.Entry.{Entry}
 use Rattle.global_data.specs.declared.Entry.TheVariants.{Absent}
 use Rattle.global_data.specs.GlobalData.{value_in}
-use Rattle.global_data.specs.Laws.{or_entry_absent, or_entry_value}
+use Rattle.global_data.proofs.Laws.{or_entry_absent, or_entry_value}
 use Rattle.process.specs.Steps.{has_decided}
 use Rattle.bench.specs.declared.Bench.{Bench}
 use Rattle.bench.specs.declared.Event.{Event}
 use Rattle.bench.specs.declared.Event.TheVariants.{Start, Send, Arrive, Close, Crash, Suspect}
 use Rattle.bench.specs.State.{process_at, crashed_at, opened_of}
-use Rattle.bench.specs.RecordLaws.{InRange}
+use Rattle.bench.proofs.RecordLaws.{InRange}
 use Rattle.bench.specs.Refuse.{actor, is_crash}
-use Rattle.bench.specs.RefuseLaws.{Passes, passes_on}
-use Rattle.bench.specs.SoundLaws.{sound_on}
+use Rattle.bench.proofs.RefuseLaws.{Passes, passes_on}
+use Rattle.bench.proofs.SoundLaws.{sound_on}
 use Rattle.bench.specs.Calls.{after_events}
 use Rattle.agreement.specs.Statement.History.{after_history, outcome, started_with, crashed_in, crash_count, rounds}
 use Rattle.agreement.specs.Histories.Append.{decides_for, is_crash_of, first_none, outcome-append, rounds-append}

@@ -27,14 +27,14 @@ use Rattle.bench.specs.RunLoop.{effect_by, effect_of}
 use Rattle.bench.specs.Closings.{closing_at, last_of}
 use Rattle.bench.specs.RunLoop.{ends_by, closing_in}
 use Rattle.bench.specs.LastLaws.{last_none, none_last, last_last}
-use Rattle.bench.specs.OldRulesLaws.{taken, untaken}
+use Rattle.bench.proofs.OldRulesLaws.{taken, untaken}
 use Rattle.bench.specs.Calls.{refused, answer_of, event_in, accepted_one, after_events, closing_from, accepted_in}
 use Rattle.bench.specs.Calls.{step_of}
 use Rattle.bench.specs.Calls.{cause_of, run_by, run_of, after_record}
 use Rattle.bench.specs.RunLoop.{after_by, ended_of, run_from}
 use Rattle.bench.specs.OneByOne.{rest_at, record_at, steps}
-use Rattle.bench.specs.RefuseLaws.{accepted_effect, accepted}
-use Rattle.bench.specs.SoundLaws.{sound_step}
+use Rattle.bench.proofs.RefuseLaws.{accepted_effect, accepted}
+use Rattle.bench.proofs.SoundLaws.{sound_step}
 
 -- ---- the turns of the loop, at any budget, bytes, bench, numbers and closing so far
 module _ (l : List ℕ) (s : Bench) (accepted : ℕ) (c : Closing) (taken : ℕ) where

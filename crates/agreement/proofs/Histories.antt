@@ -1,0 +1,4 @@
+pub mod HistoryMatchesBench
+pub mod AbsentCrashed
+pub mod PlainStarts
+pub mod RewrittenCalls

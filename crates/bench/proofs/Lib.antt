@@ -1,0 +1,11 @@
+pub mod CarryLaws
+pub mod ClosingLaws
+pub mod DietLaws
+pub mod OldRulesLaws
+pub mod RecordLaws
+pub mod RefuseLaws
+pub mod RewriteLaws
+pub mod RunLaws
+pub mod SoundLaws
+pub mod TransitLaws
+pub mod TransitOrderLaws

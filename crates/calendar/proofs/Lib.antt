@@ -1,0 +1,4 @@
+pub mod NumberingLaws
+pub mod PassLaws
+pub mod RecordLaws
+pub mod WeekLaws

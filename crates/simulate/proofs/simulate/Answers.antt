@@ -1,6 +1,6 @@
 -- `simulate` writes the lines of the processes of the bench that it reached, which is sound: it has at most sixteen.
 use Rattle.std.proofs.Common.{arith}
-use Rattle.bench.specs.SoundLaws.{sound_on}
+use Rattle.bench.proofs.SoundLaws.{sound_on}
 use Rattle.simulate.specs.LinesLaws.{reached_sound}
 use Rattle.simulate.proofs.simulate.Goals as goal
 

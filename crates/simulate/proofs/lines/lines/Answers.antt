@@ -7,7 +7,7 @@ use lib.ListN.{length}
 use borrow.Author.Rules.{rules}
 use Rattle.sets.specs.Lists.{joined}
 use Rattle.bench.specs.OneByOne.{steps}
-use Rattle.bench.specs.TransitLaws.{stores_front}
+use Rattle.bench.proofs.TransitLaws.{stores_front}
 use Rattle.simulate.specs.Output.{records_in, line_at, lines_of, after_all}
 use Rattle.text.specs.TextLaws.{puts_none, puts_length, stores_then}
 use Rattle.simulate.specs.LinesLaws.{refused_in, Taken, taken_part}

@@ -5,7 +5,7 @@ use lib.ListN.{length}
 use borrow.Author.Rules.{rules}
 use Rattle.bench.specs.State.{process_at, crashed_at}
 use Rattle.sets.specs.Lists.{joined}
-use Rattle.bench.specs.TransitLaws.{stores_front}
+use Rattle.bench.proofs.TransitLaws.{stores_front}
 use Rattle.text.specs.Text.{processes_text}
 use Rattle.text.specs.TextLaws.{puts_none, puts_length, puts_more, puts_room}
 use Rattle.text.proofs.processes.put_processes.Invariants.{text_of}

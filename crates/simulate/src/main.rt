@@ -57,7 +57,8 @@ fn answer_some(
 // so it ends too at a number that no run reaches.
 fn answer_all(rt: HostRuntime, bench: Bench, input: &mut [u8], out: &mut [u8]) -> io::Result<Bench>
     requires { (length input.old ≡ 8192) × (length out.old ≡ 32 * 1024) }
-    ensures { IfOk result (Reached bench) }
+    ensures value { IfOk result (Reached bench) }
+    ensures err { OnErr result ((length input.new ≡ length input.old) × (length out.new ≡ length out.old)) }
 {
     let mut s = bench;
     let mut first: u64 = 1;

@@ -6,8 +6,8 @@ use Rattle.simulate.proofs.answer_all.Goals as goal
 pub loop-first-init : goal.loop-first-init
 loop-first-init c = (refl, refl, carried_none c.args.bench)
 
-pub returns-then-t-lt8192 : goal.returns-then-t-lt8192
-returns-then-t-lt8192 c =
+pub returns-then-t-lt8192-clause-value : goal.returns-then-t-lt8192-clause-value
+returns-then-t-lt8192-clause-value c =
     let t = c.in_ok-t.t in
     carried_reached c.loop-first.invariant.2 (take t.read c.answer_some.new.input) t.bench c.in_ok-t.ensures.bench_value
 

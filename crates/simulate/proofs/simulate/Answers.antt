@@ -6,7 +6,7 @@ use Rattle.simulate.proofs.simulate.Goals as goal
 
 pub put_processes-place-requires : goal.put_processes-place-requires
 put_processes-place-requires c =
-    let s = sound_on c.in_ok-s.s (reached_sound c.args.bench c.in_ok-s.s c.in_ok-s.ensures c.requires.bench_value) in (
+    let s = sound_on c.in_ok-s.s (reached_sound c.args.bench c.in_ok-s.s c.in_ok-s.ensures.value c.requires.bench_value) in (
       omega (arith, s.few),
       omega (arith, c.requires.input_len, c.answer_all.auto.out),
     )

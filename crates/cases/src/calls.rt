@@ -8,77 +8,65 @@ use decision::global_data;
 use one_record::step_bytes;
 use process::{Closing, Process};
 use run::run_bytes;
+use std::io;
 use transit::in_transit;
 
-fn say_long(number: u64) {
-    io::write_all(1, b" ");
-    io::print_decimal(1, number);
+fn say_long(rt: HostRuntime, number: u64) -> io::Result<()> {
+    print!(rt; " {number}")
 }
 
-fn say(number: u32) {
-    say_long(number as u64);
+fn say(rt: HostRuntime, number: u32) -> io::Result<()> {
+    say_long(rt, number as u64)
 }
 
-fn say_answer(a: Answer) {
+fn say_answer(rt: HostRuntime, a: Answer) -> io::Result<()> {
     match a {
-        Answer::Accepted => say(0),
-        Answer::Refused(r) => say(r.number as u32),
+        Answer::Accepted => say(rt, 0),
+        Answer::Refused(r) => say(rt, r.number as u32),
     }
 }
 
-fn say_closing(c: Closing) {
+fn say_closing(rt: HostRuntime, c: Closing) -> io::Result<()> {
     match c {
-        Closing::None => {
-            io::write_all(1, b" -");
-        }
-        Closing::NextRound => {
-            io::write_all(1, b" next");
-        }
-        Closing::Agreed => {
-            io::write_all(1, b" agreed");
-        }
-        Closing::LastRound => {
-            io::write_all(1, b" last");
-        }
+        Closing::None => print!(rt; " -"),
+        Closing::NextRound => print!(rt; " next"),
+        Closing::Agreed => print!(rt; " agreed"),
+        Closing::LastRound => print!(rt; " last"),
     }
 }
 
-fn open(n: u8, t: u8) -> Bench {
+fn open(rt: HostRuntime, n: u8, t: u8) -> io::Result<Bench> {
     let o = Bench::open(n, t);
     let a = o.answer;
-    say_answer(a);
-    o.bench
+    say_answer(rt, a)?;
+    Ok(o.bench)
 }
 
-fn say_run(accepted: u32, cause: Cause) {
-    say(accepted);
+fn say_run(rt: HostRuntime, accepted: u32, cause: Cause) -> io::Result<()> {
+    say(rt, accepted)?;
     match cause {
-        Cause::Empty => {
-            io::write_all(1, b" empty");
-        }
-        Cause::Spent => {
-            io::write_all(1, b" spent");
-        }
-        Cause::Refused(r) => say(r.number as u32),
+        Cause::Empty => print!(rt; " empty"),
+        Cause::Spent => print!(rt; " spent"),
+        Cause::Refused(r) => say(rt, r.number as u32),
     }
 }
 
 // A budget and bytes: the call for one record and run are both given the bench, and the one that run gives is kept.
-fn records(b: Bench, l: Line) -> Bench {
+fn records(rt: HostRuntime, b: Bench, l: Line) -> io::Result<Bench> {
     let numbers = l.numbers;
     let budget = numbers[0] as u32;
     let bytes = rest(&numbers, l.count);
     let s = step_bytes(b, bytes);
     let a = s.answer;
     let c = s.closing;
-    say_answer(a);
-    say_closing(c);
+    say_answer(rt, a)?;
+    say_closing(rt, c)?;
     let e = run_bytes(b, bytes, budget);
     let cause = e.cause;
     let closing = e.closing;
-    say_run(e.accepted, cause);
-    say_closing(closing);
-    e.bench
+    say_run(rt, e.accepted, cause)?;
+    say_closing(rt, closing)?;
+    Ok(e.bench)
 }
 
 // Process 2 is put into a round, so that the bench can be damaged.
@@ -90,99 +78,99 @@ fn force(b: Bench, round: u8) -> Bench {
     c
 }
 
-fn say_process(p: Process, crashed: u16) {
-    say(p.round as u32);
-    say(if p.has_decided() { 1 } else { 0 });
-    say(p.current as u32);
-    say(crashed as u32);
+fn say_process(rt: HostRuntime, p: Process, crashed: u16) -> io::Result<()> {
+    say(rt, p.round as u32)?;
+    say(rt, if p.has_decided() { 1 } else { 0 })?;
+    say(rt, p.current as u32)?;
+    say(rt, crashed as u32)
 }
 
 // A process, from 1.
-fn process(b: Bench, number: u8) {
+fn process(rt: HostRuntime, b: Bench, number: u8) -> io::Result<()> {
     let at = ((number % 16) as usize + 15) % 16;
-    say_process(b.processes[at], b.crashed);
+    say_process(rt, b.processes[at], b.crashed)
 }
 
-fn say_shown(s: Shown, words: [u32; 16]) {
+fn say_shown(rt: HostRuntime, s: Shown, words: [u32; 16]) -> io::Result<()> {
     match s {
         Shown::Marks(m) => {
-            say(0);
-            say(m as u32);
+            say(rt, 0)?;
+            say(rt, m as u32)?;
         }
-        Shown::Refused(r) => say(r.number as u32),
+        Shown::Refused(r) => say(rt, r.number as u32)?,
     }
-    say(words[0]);
-    say(words[1]);
-    say(words[2]);
+    say(rt, words[0])?;
+    say(rt, words[1])?;
+    say(rt, words[2])
 }
 
 // Of sixteen words, all 9, so many are lent.
-fn data(b: Bench, process: u8, words: usize) {
+fn data(rt: HostRuntime, b: Bench, process: u8, words: usize) -> io::Result<()> {
     if 16 < words {
-        return;
+        return Ok(());
     }
     let mut all = [9u32; 16];
     let s = global_data(b, process, &mut all[0..words]);
-    say_shown(s, all);
+    say_shown(rt, s, all)
 }
 
 // Three bytes are lent.
-fn list(b: Bench) {
+fn list(rt: HostRuntime, b: Bench) -> io::Result<()> {
     let mut bytes = [0u8; 3];
     match in_transit(b, &mut bytes) {
-        Listed::Count(_) => say(0),
-        Listed::Refused(r) => say(r.number as u32),
+        Listed::Count(_) => say(rt, 0),
+        Listed::Refused(r) => say(rt, r.number as u32),
     }
 }
 
 // The bench is as it was in any case.
-fn carrying(b: Bench) {
+fn carrying(rt: HostRuntime, b: Bench) -> io::Result<()> {
     let c = carry(b);
     let a = c.answer;
-    say_answer(a);
+    say_answer(rt, a)
 }
 
-fn say_total(a: TotalAnswer) {
+fn say_total(rt: HostRuntime, a: TotalAnswer) -> io::Result<()> {
     match a {
         TotalAnswer::Total(v) => {
-            say(0);
-            say_long(v);
+            say(rt, 0)?;
+            say_long(rt, v)
         }
-        TotalAnswer::Refused(r) => say(r.number as u32),
+        TotalAnswer::Refused(r) => say(rt, r.number as u32),
     }
 }
 
 // Of four standing values so many are lent.
-fn sum(n: u8, marks: u16, standing: usize) {
+fn sum(rt: HostRuntime, n: u8, marks: u16, standing: usize) -> io::Result<()> {
     if 4 < standing {
-        return;
+        return Ok(());
     }
     let all = [50u32, 60, 70, 80];
-    say_total(total(n, &[5, 6, 7], marks, &all[0..standing]));
+    say_total(rt, total(n, &[5, 6, 7], marks, &all[0..standing]))
 }
 
 // Every word is the largest, present or not.
-fn greatest(n: u8, marks: u16) {
+fn greatest(rt: HostRuntime, n: u8, marks: u16) -> io::Result<()> {
     let all = [4294967295u32; 16];
-    say_total(total(n, &all, marks, &all));
+    say_total(rt, total(n, &all, marks, &all))
 }
 
 // The change is from 4.
-fn aggregate(n: u8, marks: u16, process: u8, entries: &[u32]) {
+fn aggregate(rt: HostRuntime, n: u8, marks: u16, process: u8, entries: &[u32]) -> io::Result<()> {
     match go(n, entries, marks) {
-        GoAnswer::Go(_) => say(0),
-        GoAnswer::Refused(r) => say(r.number as u32),
+        GoAnswer::Go(_) => say(rt, 0)?,
+        GoAnswer::Refused(r) => say(rt, r.number as u32)?,
     }
     match lead(n, entries, marks) {
         LeadAnswer::Lead {
             process: _,
             portions: _,
-        } => say(0),
-        LeadAnswer::Refused(r) => say(r.number as u32),
+        } => say(rt, 0)?,
+        LeadAnswer::Refused(r) => say(rt, r.number as u32)?,
     }
     match change(n, entries, marks, process, 4) {
-        ChangeAnswer::Difference(_) => say(0),
-        ChangeAnswer::Refused(r) => say(r.number as u32),
+        ChangeAnswer::Difference(_) => say(rt, 0),
+        ChangeAnswer::Refused(r) => say(rt, r.number as u32),
     }
 }
 
@@ -192,21 +180,22 @@ fn word(portions: u8, diet: u8) -> u32 {
 }
 
 // Three entries, as portions and diet portions; the standing values are 50, 60 and 70.
-fn values(l: Line) {
+fn values(rt: HostRuntime, l: Line) -> io::Result<()> {
     let v = l.numbers;
     let n = v[0];
     let marks = v[1] as u16;
     let entries = [word(v[3], v[4]), word(v[5], v[6]), word(v[7], v[8])];
-    aggregate(n, marks, v[2], &entries);
-    say_total(total(n, &entries, marks, &[50, 60, 70]));
+    aggregate(rt, n, marks, v[2], &entries)?;
+    say_total(rt, total(n, &entries, marks, &[50, 60, 70]))
 }
 
-fn say_sixteen(numbers: [u8; 16]) {
+fn say_sixteen(rt: HostRuntime, numbers: [u8; 16]) -> io::Result<()> {
     let mut i = 0;
     while i < 16 {
-        say(numbers[i] as u32);
+        say(rt, numbers[i] as u32)?;
         i += 1;
     }
+    Ok(())
 }
 
 fn of_two(high: u8, low: u8) -> u16 {
@@ -214,7 +203,7 @@ fn of_two(high: u8, low: u8) -> u16 {
 }
 
 // The week as two numbers, the high one first, and the bytes of the calendar.
-fn calendar(l: Line) {
+fn calendar(rt: HostRuntime, l: Line) -> io::Result<()> {
     let numbers = l.numbers;
     let asked = of_two(numbers[0], numbers[1]);
     let bytes = rest(&numbers, l.count);
@@ -222,46 +211,46 @@ fn calendar(l: Line) {
     let found = a.numbering;
     let processes = found.process_of;
     let sites = found.site_of;
-    say(a.answer as u32);
-    say(found.n as u32);
-    say_sixteen(processes);
-    say_sixteen(sites);
+    say(rt, a.answer as u32)?;
+    say(rt, found.n as u32)?;
+    say_sixteen(rt, processes)?;
+    say_sixteen(rt, sites)
 }
 
 // The calls that only read, with the line's first three numbers
-fn look(b: Bench, letter: u8, first: u8, second: u8, third: u8) {
+fn look(rt: HostRuntime, b: Bench, letter: u8, first: u8, second: u8, third: u8) -> io::Result<()> {
     match letter {
-        b'p' => process(b, first),
-        b'd' => data(b, first, second as usize),
-        b'i' => list(b),
-        b'c' => carrying(b),
-        b't' => sum(first, second as u16, third as usize),
-        b'g' => greatest(first, second as u16),
-        b'a' => aggregate(first, second as u16, third, &[5, 6, 7]),
-        _ => {}
+        b'p' => process(rt, b, first),
+        b'd' => data(rt, b, first, second as usize),
+        b'i' => list(rt, b),
+        b'c' => carrying(rt, b),
+        b't' => sum(rt, first, second as u16, third as usize),
+        b'g' => greatest(rt, first, second as u16),
+        b'a' => aggregate(rt, first, second as u16, third, &[5, 6, 7]),
+        _ => Ok(()),
     }
 }
 
 // Makes a line's call, by its first letter, and gives the bench after it. Any other letter is no call.
-pub fn answer(b: Bench, l: Line) -> Bench {
+pub fn answer(rt: HostRuntime, b: Bench, l: Line) -> io::Result<Bench> {
     let letter = l.letter;
     let first = l.numbers[0];
     let second = l.numbers[1];
     match letter {
-        b'o' => open(first, second),
-        b'r' => records(b, l),
-        b'f' => force(b, first),
+        b'o' => open(rt, first, second),
+        b'r' => records(rt, b, l),
+        b'f' => Ok(force(b, first)),
         b'w' => {
-            calendar(l);
-            b
+            calendar(rt, l)?;
+            Ok(b)
         }
         b'v' => {
-            values(l);
-            b
+            values(rt, l)?;
+            Ok(b)
         }
         _ => {
-            look(b, letter, first, second, l.numbers[2]);
-            b
+            look(rt, b, letter, first, second, l.numbers[2])?;
+            Ok(b)
         }
     }
 }

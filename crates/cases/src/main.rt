@@ -1,4 +1,5 @@
 // Runs the table on standard input: writes each line of it, and after one that names a call what the call answers.
+// The only errors are those of reading and writing: each is returned at once, up to `main`, and ends the program.
 #![tactic(auto)]
 
 mod calls;
@@ -7,9 +8,12 @@ mod line;
 use crate::calls::answer;
 use crate::line::{Line, fed};
 use bench::Bench;
+use reading::read_full;
+use std::io;
+use std::io::Write;
 
 // Each call is made on the bench that the lines before it left.
-fn lines(text: &[u8]) {
+fn lines(rt: HostRuntime, text: &[u8]) -> io::Result<()> {
     let none = Line {
         letter: 0,
         numbers: [0; 128],
@@ -25,18 +29,19 @@ fn lines(text: &[u8]) {
         let next = fed(line, c);
         line = next;
         if c == b'\n' {
-            let after = answer(b, next);
+            let after = answer(rt, b, next)?;
             b = after;
             line = none;
         }
-        io::write_all(1, &[c]);
+        rt.stdout().write_all(&[c])?;
         i += 1;
     }
+    Ok(())
 }
 
 // The table is shorter than the buffer.
-fn main() {
+fn main(rt: HostRuntime) -> io::Result<()> {
     let mut text = [0u8; 16384];
-    let read = io::read_full(0, &mut text);
-    lines(&text[..read]);
+    let read = read_full(&mut rt.stdin(), &mut text)?;
+    lines(rt, &text[..read])
 }

@@ -1,10 +1,11 @@
 // Runs a bench from standard input: the opening record, then a line for each record, then a line for each process.
+// The only errors are those of reading and writing: each is returned at once, up to `main`, and ends the program.
 #![tactic(auto)]
 
 mod lines;
 mod opening;
 
-ghost use Rattle.std.specs.Prelude.{◌≡◌, true, ◌++◌, ◌*◌, ◌≤◌, ◌^◌, length, take, drop};
+ghost use Rattle.std.specs.Prelude.{◌≡◌, true, ◌++◌, ◌*◌, ◌≤◌, ◌^◌, ℕ, IfOk, OnErr, length, take, drop};
 ghost use Rattle.bench.specs.Sound.{sound_of};
 ghost use Rattle.simulate.specs.Output.{lines_of, after_all};
 ghost use Rattle.simulate.specs.LinesLaws.{Reached};
@@ -12,6 +13,9 @@ ghost use Rattle.simulate.specs.LinesLaws.{Reached};
 use crate::lines::lines;
 use crate::opening::opening;
 use bench::{Answer, Bench};
+use reading::read_full;
+use std::io;
+use std::io::Write;
 use text::line::put_line;
 use text::processes::put_processes;
 
@@ -23,73 +27,82 @@ struct Turn {
 }
 
 // Fills `input`, which holds whole records, as far as standard input goes, and writes the lines of its
-// records, numbered from `first`.
-fn answer_some(bench: Bench, first: u64, input: &mut [u8], out: &mut [u8]) -> Turn
+// records, numbered from `first`. After an error `out` has the lines of a first part of what stands in `input`.
+fn answer_some(
+    rt: HostRuntime,
+    bench: Bench,
+    first: u64,
+    input: &mut [u8],
+    out: &mut [u8],
+) -> io::Result<Turn>
     requires { (first ≤ 2 ^ 63) × (length input.old ≡ 8192) × (length out.old ≡ 32 * 1024) }
-    ensures read_bound { result.read ≤ 8192 }
-    ensures bench_value { result.bench ≡ after_all bench (take result.read input.new) }
-    ensures out_after { out.new
-        ≡ lines_of bench first (take result.read input.new)
-        ++ drop (length (lines_of bench first (take result.read input.new))) out.old }
+    ensures read_bound { IfOk result (λ t. t.read ≤ 8192) }
+    ensures bench_value { IfOk result (λ t. t.bench ≡ after_all bench (take t.read input.new)) }
+    ensures out_after { IfOk result (λ t. out.new
+        ≡ lines_of bench first (take t.read input.new)
+        ++ drop (length (lines_of bench first (take t.read input.new))) out.old) }
+    ensures err { OnErr result ((k : ℕ) × (k ≤ 8192) × (out.new
+        ≡ lines_of bench first (take k input.new)
+        ++ drop (length (lines_of bench first (take k input.new))) out.old)) }
 {
-    let read = io::read_full(0, input);
+    let read = read_full(&mut rt.stdin(), input)?;
     let r = lines(bench, &input[..read], first, out);
     let place = r.place;
     let b = r.bench;
-    io::write_all(1, &out[..place]);
-    Turn { bench: b, read }
+    rt.stdout().write_all(&out[..place])?;
+    Ok(Turn { bench: b, read })
 }
 
 // Until standard input ends. A proved loop has to end, and nothing says that the input does,
 // so it ends too at a number that no run reaches.
-fn answer_all(bench: Bench, input: &mut [u8], out: &mut [u8]) -> Bench
+fn answer_all(rt: HostRuntime, bench: Bench, input: &mut [u8], out: &mut [u8]) -> io::Result<Bench>
     requires { (length input.old ≡ 8192) × (length out.old ≡ 32 * 1024) }
-    ensures { Reached bench result }
+    ensures { IfOk result (Reached bench) }
 {
     let mut s = bench;
     let mut first: u64 = 1;
     while first < 9223372036854775808 {
-        let t = answer_some(s, first, input, out);
+        let t = answer_some(rt, s, first, input, out)?;
         let b = t.bench;
         s = b;
         if t.read < 8192 {
-            return s;
+            return Ok(s);
         }
         first += 1024;
     }
-    s
+    Ok(s)
 }
 
 // An opened bench: the lines of the records, and then of the processes.
-fn simulate(bench: Bench, input: &mut [u8], out: &mut [u8])
+fn simulate(rt: HostRuntime, bench: Bench, input: &mut [u8], out: &mut [u8]) -> io::Result<()>
     requires bench_value { sound_of bench ≡ true }
     requires input_len { (length input.old ≡ 8192) × (length out.old ≡ 32 * 1024) }
 {
-    let s = answer_all(bench, input, out);
+    let s = answer_all(rt, bench, input, out)?;
     let place = put_processes(s, out);
-    io::write_all(1, &out[..place]);
+    rt.stdout().write_all(&out[..place])
 }
 
 // The opening record, and then either all the others or the one line of its refusal.
-fn open(input: &mut [u8], out: &mut [u8])
+fn open(rt: HostRuntime, input: &mut [u8], out: &mut [u8]) -> io::Result<()>
     requires { (length input.old ≡ 8192) × (length out.old ≡ 32 * 1024) }
 {
-    let read = io::read_full(0, &mut input[..8]);
+    let read = read_full(&mut rt.stdin(), &mut input[..8])?;
     let opened = opening(&input[..read]);
     let b = opened.bench;
     let answer = opened.answer;
     match answer {
-        Answer::Accepted => simulate(b, input, out),
+        Answer::Accepted => simulate(rt, b, input, out),
         Answer::Refused(r) => {
             let place = put_line(out, 0, 0, r.number);
-            io::write_all(1, &out[..place]);
+            rt.stdout().write_all(&out[..place])
         }
     }
 }
 
 // The input's buffer is made whole before reading, and holds 1024 records; the output's has room for their lines.
-fn main() {
+fn main(rt: HostRuntime) -> io::Result<()> {
     let mut input = [0u8; 8192];
     let mut out = [0u8; 32768];
-    open(&mut input, &mut out);
+    open(rt, &mut input, &mut out)
 }

@@ -1,0 +1,27 @@
+-- By the check's answer: refused, nothing was stored; accepted, what is stored is the effect.
+use Rattle.std.proofs.Common.{arith}
+use Rattle.bench.specs.State.{process_at}
+use Rattle.run.specs.Turns.{stays, goes, refuses_send, message_low, effect_send}
+use Rattle.run.proofs.events.send_in.Goals as goal
+
+pub returns-in_err-message_check-clause-bench : goal.returns-in_err-message_check-clause-bench
+unfolding process_at
+returns-in_err-message_check-clause-bench c = stays _ _ _ (refuses_send _ _ _) _ c.in_err-message_check.ensures
+
+pub returns-in_err-message_check-clause-answer : goal.returns-in_err-message_check-clause-answer
+unfolding process_at
+returns-in_err-message_check-clause-answer c = rw refuses_send c.in_err-message_check.ensures
+
+pub set_index-i-requires : goal.set_index-i-requires
+unfolding process_at
+set_index-i-requires c = ?
+
+pub returns-clause-bench : goal.returns-clause-bench
+unfolding process_at
+returns-clause-bench c =
+    goes _ _ _ (refuses_send _ _ _) c.in_ok-message_check.ensures _
+    (effect_send _ _ _ _ _ _ ? c.send.ensures c.insert.ensures)
+
+pub returns-clause-answer : goal.returns-clause-answer
+unfolding process_at
+returns-clause-answer c = rw refuses_send c.in_ok-message_check.ensures

@@ -1,17 +1,11 @@
 -- Checks 6 to 9 of an event on the parts of the bench that it looks at, as the code has them.
 -- Each is the definition with its parts named, so it holds by unfolding.
-use Rattle.std.specs.Prelude.{◌≡◌, refl, Bool, true, false, not, ℕ, ◌≤◌, Result, Ok, Err}
-use Rattle.refusal.specs.declared.Refusal.{Refusal}
-use Rattle.refusal.specs.Numbers.{refused}
+use Rattle.std.specs.Prelude.{◌≡◌, refl, Bool, true, false, not, ℕ, ◌≤◌}
 use Rattle.sets.specs.Set.{has, size_of, empty_set}
 use Rattle.sets.specs.Truth.{◌and◌, same, less, select, check}
 use Rattle.sets.specs.TruthLaws.{and_first, less_on, clash}
 use Rattle.process.specs.declared.Process.{Process}
 use Rattle.process.specs.Steps.{has_decided, takes_part, due_of}
-
--- the answer with a number: 0 lets it through
-unfoldable pub answer_of : ℕ → Result (Unit {0}) Refusal
-answer_of k = select (same k 0) (Ok tt) (Err (refused k))
 
 -- the number of the first check that fails, or 0
 abbrev pub first_failed : Bool → Bool → Bool → Bool → ℕ
@@ -39,7 +33,7 @@ suspect_check crashed a m b = first_failed (has crashed a) (has crashed b and no
 -- what passes 6 and 7 is up to what is checked after them
 pub first_possible : (crashed passes7 passes8 passes9 : Bool) → (passes7 and not crashed) ≡ true
     → first_failed crashed passes7 passes8 passes9 ≡ first_failed false true passes8 passes9
-unfolding first_failed check select ◌and◌
+unfolding check select ◌and◌
 first_possible true true passes8 passes9 e = clash false e refl
 first_possible true false passes8 passes9 e = clash false e refl
 first_possible false true passes8 passes9 e = refl
@@ -48,7 +42,7 @@ first_possible false false passes8 passes9 e = clash false e refl
 -- what fails one of them does so whatever is checked after it
 pub first_impossible : (crashed passes7 passes8 passes9 : Bool) → (passes7 and not crashed) ≡ false
     → first_failed crashed passes7 passes8 passes9 ≡ first_failed crashed false false true
-unfolding first_failed check select ◌and◌
+unfolding check select ◌and◌
 first_impossible true passes7 passes8 passes9 e = refl
 first_impossible false true passes8 passes9 e = clash true refl e
 first_impossible false false passes8 passes9 e = refl

@@ -1,8 +1,9 @@
 // Checks 6 to 9 of each event, on the parts of the bench that it looks at: the first that fails refuses it.
-#![tactic(auto, unfolding(crate::specs::Checks::answer_of, sets::specs::Truth::check, sets::specs::Truth::select, sets::specs::Truth::same, sets::specs::Truth::less))]
+#![tactic(auto, unfolding(bench::specs::Calls::answer_of, sets::specs::Truth::check, sets::specs::Truth::select, sets::specs::Truth::same, sets::specs::Truth::less))]
 
 ghost use Rattle.std.specs.Prelude.{◌≡◌, ◌<◌, ◌≤◌};
-ghost use Rattle.checks.specs.Checks.{answer_of, start_check, message_check};
+ghost use Rattle.bench.specs.Calls.{answer_of};
+ghost use Rattle.checks.specs.Checks.{start_check, message_check};
 ghost use Rattle.checks.specs.Checks.{close_check, crash_check, suspect_check};
 
 use process::Process;

@@ -3,7 +3,8 @@ use Rattle.std.proofs.Common.{◌≡◌, true, arith}
 use Rattle.std.proofs.lemmas.Grind.{common_steps}
 use Rattle.sets.specs.Truth.{◌and◌, same, select, check}
 use Rattle.process.specs.Steps.{takes_part}
-use Rattle.checks.specs.Checks.{answer_of, takes_started}
+use Rattle.bench.specs.Calls.{answer_of}
+use Rattle.checks.specs.Checks.{takes_started}
 use Rattle.checks.proofs.close_check.Goals as goal
 
 pub returns-then-takes_part-p : goal.returns-then-takes_part-p

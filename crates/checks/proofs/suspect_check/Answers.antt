@@ -1,7 +1,7 @@
 use Rattle.std.proofs.Common.{arith}
 use Rattle.std.proofs.lemmas.Grind.{common_steps}
 use Rattle.sets.specs.Truth.{◌and◌, same, select, check}
-use Rattle.checks.specs.Checks.{answer_of}
+use Rattle.bench.specs.Calls.{answer_of}
 use Rattle.checks.proofs.suspect_check.Goals as goal
 
 pub returns-then-member-2 : goal.returns-then-member-2

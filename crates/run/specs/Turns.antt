@@ -1,14 +1,15 @@
 -- What the laws of bench say of run's code, with the parts of the bench named that it reads and stores: each event's
 -- check and effect, and a turn of the loop.
-use Rattle.std.specs.Prelude.{◌≡◌, ◌≢◌, List, [], ◌∷◌, Bool, true, false, ℕ, zero, suc, ◌+◌, ◌-◌, ◌*◌, ◌/◌, ◌%◌, ◌≤◌, ◌<◌, length, get_or, set, Result, Ok, Err}
+use Rattle.std.specs.Prelude.{◌≡◌, ◌≢◌, List, [], ◌∷◌, Bool, true, false, ℕ, zero, suc, ◌+◌, ◌-◌, ◌*◌, ◌/◌, ◌%◌, ◌^◌, ◌≤◌, ◌<◌, length, get_or, set, Result, Ok, Err}
 use Rattle.std.proofs.Math.Path.{refl, sym, ap, subst}
 use Rattle.std.proofs.Common.{◌∙◌}
+use Rattle.std.proofs.Math.Nat.{div-eq_of_lt}
 use native.Mathlib.Omega.{arith}
 use Rattle.sets.specs.Set.{insert_of, remove_of}
 use Rattle.sets.specs.Truth.{select, same, ◌or◌}
 use Rattle.sets.specs.TruthLaws.{and_first, Is, on, off, is, clash, select_on, select_off, check-zero, same_on, same_mk}
 use Rattle.global_data.specs.declared.GlobalData.{GlobalData}
-use Rattle.global_data.specs.GlobalData.{no_data}
+use Rattle.global_data.specs.GlobalData.{no_data, fill_from, all_same}
 use Rattle.global_data.proofs.PassLaws.{Passing}
 use Rattle.process.specs.declared.Process.{Process}
 use Rattle.process.specs.declared.Closing.{Closing}
@@ -26,13 +27,16 @@ use Rattle.bench.specs.declared.Message.TheVariants.{Estimate, Decision}
 use Rattle.bench.specs.declared.Event.{Event}
 use Rattle.bench.specs.declared.Event.TheVariants.{Start, Send, Arrive, Close, Crash, Suspect}
 use Rattle.bench.specs.State.{bench_of, process_at, sent_at, transit_at, crashed_at, with_process, with_sent, with_transit, with_crashed}
-use Rattle.bench.proofs.RecordLaws.{MessageIn}
+use Rattle.bench.specs.Sound.{sound_of}
+use Rattle.bench.proofs.SoundLaws.{Bounds, sound_on, sound_step}
+use Rattle.bench.proofs.RecordLaws.{MessageIn, InRange}
 use Rattle.bench.specs.Refuse.{number_of, actor, is_crash, passes7, passes8, passes9, refuses}
 use Rattle.bench.specs.Effect.{opens_round, rows_at, sends, arrives, closes_as, effect}
 use Rattle.bench.specs.Closings.{closing_at}
-use Rattle.checks.specs.Checks.{answer_of, first_failed, start_check, message_check, close_check}
+use Rattle.bench.specs.Calls.{answer_of}
+use Rattle.checks.specs.Checks.{first_failed, start_check, message_check, close_check}
 use Rattle.checks.specs.Checks.{crash_check, suspect_check, takes_started}
-use Rattle.run.specs.Events.{moved, verdict_of, rows_in, marked}
+use Rattle.run.specs.Events.{moved, verdict_of, closed_of, rows_in, marked}
 
 -- ---- an answer with a number k: accepted, the number is 0; refused, it is that of the refusal. So is any verdict
 module _ (k : ℕ) where
@@ -61,11 +65,32 @@ module _ (k : ℕ) where
     unfolding verdict_of
     refused_as r h = let e = answer_err r h in ap Err e.1 ∙ sym (select_off _ _ _ e.0)
 
+-- a verdict told on: the same refusal, or f of what was accepted
+module _ {A B : Type 0} (k : ℕ) (x : A) (f : A → B) where
+  pub told_err : (r : Refusal) → Err r ≡ verdict_of k x → Err r ≡ verdict_of k (f x)
+  unfolding verdict_of select
+  told_err r h = go (is (same k 0))
+    where
+      go : Is (same k 0) → Err r ≡ verdict_of k (f x)
+      go (on e) = let p : Err r ≡ Ok x = h ∙ select_on _ _ _ e in absurd (cc p)
+      go (off e) = let p : Err r ≡ Err (refused k) = h ∙ select_off _ _ _ e in let q : r ≡ refused k = cc p in rw (e, q)
+
+  pub told_ok : (z : A) → Ok z ≡ verdict_of k x → Ok (f z) ≡ verdict_of k (f x)
+  unfolding verdict_of select
+  told_ok z h = go (is (same k 0))
+    where
+      go : Is (same k 0) → Ok (f z) ≡ verdict_of k (f x)
+      go (on e) = let p : Ok z ≡ Ok x = h ∙ select_on _ _ _ e in let q : z ≡ x = cc p in rw (e, q)
+      go (off e) = let p : Ok z ≡ Err (refused k) = h ∙ select_off _ _ _ e in absurd (cc p)
+
 -- ---- an event with the number k, which the code's check gives
 module _ (e : Event) (s : Bench) (k : ℕ) (p : refuses e s ≡ k) where
   pub stays : (r : Refusal) → Err r ≡ answer_of k → s ≡ moved e s
   unfolding moved
   stays r h = sym (select_off _ _ _ (rw p (answer_err k r h).0))
+
+  pub same_answer : (x : Result (Unit {0}) Refusal) → x ≡ answer_of k → x ≡ answer_of (refuses e s)
+  same_answer x h = rw p h
 
   pub goes : Ok tt ≡ answer_of k → (d : Bench) → d ≡ effect e s → d ≡ moved e s
   unfolding moved
@@ -81,10 +106,11 @@ module _ (s : Bench) where
   unfolding refuses actor is_crash passes7 passes8 passes9 ◌or◌ crashed_at
   refuses_send a b = refl
 
-  pub refuses_arrive : (a b : ℕ) (m : Message)
-      → refuses (Arrive a b m) s ≡ message_check s.crashed b (transit_at s a (number_of m)) b
-  unfolding refuses actor is_crash passes7 passes8 passes9 ◌or◌ crashed_at
-  refuses_arrive a b m = refl
+  -- the set in transit of the message m of a is at j
+  pub refuses_arrive : (a b j : ℕ) (m : Message) → j ≡ a * 17 + number_of m
+      → refuses (Arrive a b m) s ≡ message_check s.crashed b (get_or s.in_transit j 0) b
+  unfolding refuses actor is_crash passes7 passes8 passes9 ◌or◌ crashed_at transit_at
+  refuses_arrive a b j m e = rw e
 
   pub refuses_close : (a : ℕ) → refuses (Close a) s ≡ close_check s.crashed a (process_at s a)
   unfolding refuses actor is_crash passes7 passes8 passes9 ◌or◌ crashed_at
@@ -97,6 +123,40 @@ module _ (s : Bench) where
   pub refuses_suspect : (a b : ℕ) → refuses (Suspect a b) s ≡ suspect_check s.crashed a (process_at s a).suspected b
   unfolding refuses actor is_crash passes7 passes8 passes9 ◌or◌ crashed_at
   refuses_suspect a b = refl
+
+-- ---- what an event of a sound bench names is below 16
+unfoldable pub Low : Event → Type 0
+Low (Start a v) = a < 16
+Low (Send a b) = (a < 16) × (b < 16)
+Low (Arrive a b m) = (a < 16) × (b < 16) × MessageIn 15 m
+Low (Close a) = a < 16
+Low (Crash a) = a < 16
+Low (Suspect a b) = (a < 16) × (b < 16)
+
+low_in : (n t : ℕ) → n < 17 → t < n → (e : Event) → InRange n t e → Low e
+unfolding InRange MessageIn Low
+low_in n t p q (Start a v) h = omega arith
+low_in n t p q (Send a b) h = (omega (arith, h.first), omega (arith, h.second))
+low_in n t p q (Arrive a b (Estimate r)) h =
+    (omega (arith, h.0.first), omega (arith, h.0.second), (h.1.0, omega (arith, h.1.1)))
+low_in n t p q (Arrive a b Decision) h = (omega (arith, h.0.first), omega (arith, h.0.second), tt)
+low_in n t p q (Close a) h = omega arith
+low_in n t p q (Crash a) h = omega arith
+low_in n t p q (Suspect a b) h = (omega (arith, h.first), omega (arith, h.second))
+
+module _ (s : Bench) (h : sound_of s ≡ true) where
+  pub sizes_low : (s.n ≤ 16) × (s.t < 16)
+  sizes_low = let b = sound_on s h in (omega (arith, b.few), omega (arith, b.few, b.limit))
+
+  pub round_low : (a : ℕ) → (process_at s a).round ≤ s.t + 1
+  unfolding process_at
+  round_low a = omega (arith, ((sound_on s h).process a).round)
+
+  pub round_last : (a : ℕ) → (process_at s a).round ≤ 16
+  round_last a = omega (arith, sizes_low.1, round_low a)
+
+  pub event_low : (e : Event) → InRange s.n s.t e → Low e
+  event_low e i = let b = sound_on s h in low_in s.n s.t b.few b.limit e i
 
 -- ---- a message's number is at most 16
 pub number_low : (m : Message) → MessageIn 15 m → number_of m ≤ 16
@@ -165,16 +225,17 @@ module _ (s : Bench) where
   unfolding effect sends with_process with_transit transit_at
   effect_send a b j m p e h w = rw (w, e, h)
 
-  pub effect_receive : (a b r j m : ℕ) (p : Process) → j ≡ a * 17 + r → p ≡ receive_of a r (process_at s b)
-      → m ≡ remove_of (get_or s.in_transit j 0) b → moved_at j b p m ≡ effect (Arrive a b (Estimate r)) s
-  unfolding effect arrives with_process with_transit transit_at
-  effect_receive a b r j m p e h w = rw (w, e, h)
+  pub effect_receive : (a b r j m : ℕ) (k : Message) (p : Process) → k ≡ Estimate r → j ≡ a * 17 + number_of k
+      → p ≡ receive_of a r (process_at s b) → m ≡ remove_of (get_or s.in_transit j 0) b
+      → moved_at j b p m ≡ effect (Arrive a b k) s
+  unfolding effect arrives with_process with_transit transit_at number_of
+  effect_receive a b r j m k p q e h w = rw (w, e, q, h)
 
-  pub effect_adopt : (a b j m : ℕ) (p : Process) → j ≡ a * 17 + 0
-      → p ≡ adopt_of s.n b a (process_at s a).estimate (process_at s b)
-      → m ≡ remove_of (get_or s.in_transit j 0) b → moved_at j b p m ≡ effect (Arrive a b Decision) s
-  unfolding effect arrives with_process with_transit transit_at
-  effect_adopt a b j m p e h w = rw (w, e, h)
+  pub effect_adopt : (a b j m : ℕ) (k : Message) (p : Process) → k ≡ Decision → j ≡ a * 17 + number_of k
+      → p ≡ adopt_of s.n b a (process_at s a).estimate (process_at s b) → m ≡ remove_of (get_or s.in_transit j 0) b
+      → moved_at j b p m ≡ effect (Arrive a b k) s
+  unfolding effect arrives with_process with_transit transit_at number_of
+  effect_adopt a b j m k p q e h w = rw (w, e, q, h)
 
   pub effect_crash : (a m : ℕ) → m ≡ insert_of s.crashed a
       → bench_of s.n s.t m s.processes s.sent s.in_transit ≡ effect (Crash a) s
@@ -191,8 +252,71 @@ pub row_at : (sent : List GlobalData) (r i : ℕ) → i % 16 ≡ r → get_or se
 row_at sent r i e = ap (λ (k : ℕ). get_or sent k no_data) (omega arith)
 
 -- a row that is stored whole, and then its marks
-pub remarked : (l : List GlobalData) (j m : ℕ) (g : GlobalData)
+remarked : (l : List GlobalData) (j m : ℕ) (g : GlobalData)
     → set (set l j g) j (marked m (get_or (set l j g) j no_data).values) ≡ set l j (marked m g.values)
 remarked [] j m g = refl
 remarked (x ∷ l) zero m g = refl
 remarked (x ∷ l) (suc j) m g = ap (λ (r : List GlobalData). x ∷ r) (remarked l j m g)
+
+-- a has opened a round as p, whose row was stored so
+pub opened_marked : (s : Bench) (a j m : ℕ) (g : GlobalData) (p : Process)
+    → bench_of s.n s.t s.crashed (set s.processes a (with_estimate (marked m g.values) p))
+    (set (set s.sent j g) j (marked m (get_or (set s.sent j g) j no_data).values)) s.in_transit
+    ≡ opened_at s a j (with_estimate (marked m g.values) p)
+opened_marked s a j m g p = rw (remarked s.sent j m g)
+
+-- ---- what a close of a comes to: q is the process then, x the code's closing
+pub record Closes (x : Closing) (s : Bench) (a : ℕ) (q : Process) : Type 0 where
+  pub closing : x ≡ closed_of a s
+  pub decides : has_decided q ≡ true → with_process s a q ≡ effect (Close a) s
+  pub opens : has_decided q ≡ false → (j : ℕ) → j ≡ a * 16 + (q.round - 1) → opened_at s a j q ≡ effect (Close a) s
+  pub round : has_decided q ≡ false → s.t < 16 → (process_at s a).round ≤ s.t + 1 → (1 ≤ q.round) × (q.round ≤ 16)
+
+-- once its pass is made: `next` is the code's next set, and q what it makes of a but for the estimate
+module _ (x : Closing) (s : Bench) (a r next m : ℕ) (g : GlobalData) (alike : Bool) (q : Process)
+    (e : r ≡ (process_at s a).round - 1) (f : next ≡ next_of a (process_at s a)) (h : m ≡ remove_of next a)
+    (b : m < 2 ^ 16) (fills : g ≡ fill_from 16 m (rows_in s.sent r) (process_at s a).estimate)
+    (compares : alike ≡ all_same 16 s.n m (rows_in s.sent r) (process_at s a).estimate)
+    (few : s.n ≤ 16) (k : (q ≡ finish_of s.n s.t a next alike (process_at s a))
+    × (x ≡ closing_by s.t next alike (process_at s a))) where
+  abbrev rows : ℕ → GlobalData
+  rows = rows_at s (process_at s a).round
+
+  abbrev after : Process
+  after = with_estimate g q
+
+  passed : Passing s.n m (rows_in s.sent r) (process_at s a).estimate 16 0 g alike
+  passed =
+      record {
+        few = b;
+        within = omega arith;
+        others = sym (div-eq_of_lt {n = m} {m = 2 ^ 16} b);
+        fills = fills;
+        compares = compares;
+      }
+
+  -- the process and the closing are those of the definitions, on the rows of the round
+  closed : (after ≡ close_of s.n s.t a rows (process_at s a))
+      × (x ≡ closing_of s.n s.t a rows (process_at s a))
+  unfolding rows_at sent_at
+  closed = close_passed s.n s.t a rows (process_at s a) next 16 g alike q x f (rw (e, h) at passed) few k
+
+  opened : has_decided after ≡ false → (after.round ≡ (process_at s a).round + 1) × ((process_at s a).round ≢ s.t + 1)
+  opened d =
+      subst (λ (p : Process). (p.round ≡ (process_at s a).round + 1) × ((process_at s a).round ≢ s.t + 1)) (sym closed.0)
+      (close_opens s.n s.t a rows (process_at s a) (subst (λ (p : Process). has_decided p ≡ false) closed.0 d))
+
+  pub closes : Closes x s a after
+  unfolding effect closes_as closed_of
+  closes =
+      record {
+        closing = closed.1;
+        decides =
+            λ d.
+            rw (← closed.0) (sym (select_on (has_decided after) (with_process s a after) (opens_round s a after) d));
+        opens =
+            λ d i j.
+            opened_at_lem s a i after j
+            ∙ rw (← closed.0) (sym (select_off (has_decided after) (with_process s a after) (opens_round s a after) d));
+        round = λ d l m. omega (arith, (opened d).0, (opened d).1);
+      }

@@ -2,10 +2,9 @@
 ghost use Rattle.std.specs.Prelude.{◌≡◌, ◌+◌, ◌*◌, ◌<◌, ◌≤◌, length};
 ghost use Rattle.global_data.specs.GlobalData.{all_same, fill_from};
 ghost use Rattle.bench.specs.declared.Event.TheVariants.{Close};
-ghost use Rattle.bench.specs.Closings.{closing_at};
 ghost use Rattle.bench.specs.Refuse.{refuses};
 ghost use Rattle.bench.specs.State.{process_at};
-ghost use Rattle.run.specs.Events.{moved, verdict_of, marked, rows_in};
+ghost use Rattle.run.specs.Events.{closed_of, moved, verdict_of, marked, rows_in};
 
 use crate::events::row_index;
 use bench::Bench;
@@ -52,7 +51,7 @@ pub(crate) fn close_in(s: &mut Bench, a: usize) -> Result<Closing, Refusal>
     requires sizes { (a < 16) × (s.old.n ≤ 16) × (s.old.t < 16) }
     requires round { (process_at s.old a).round ≤ s.old.t + 1 }
     ensures bench { s.new ≡ moved (Close a) s.old }
-    ensures answer { result ≡ verdict_of (refuses (Close a) s.old) (closing_at (Close a) s.old) }
+    ensures answer { result ≡ verdict_of (refuses (Close a) s.old) (closed_of a s.old) }
 {
     let p = s.processes[a];
     close_check(s.crashed, a, p)?;

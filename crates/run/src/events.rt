@@ -2,7 +2,7 @@
 ghost use Rattle.std.specs.Prelude.{◌≡◌, ◌+◌, ◌-◌, ◌*◌, ◌<◌, ◌≤◌};
 ghost use Rattle.bench.specs.declared.Event.TheVariants.{Start, Send, Arrive, Crash, Suspect};
 ghost use Rattle.bench.specs.Refuse.{number_of, refuses};
-ghost use Rattle.checks.specs.Checks.{answer_of};
+ghost use Rattle.bench.specs.Calls.{answer_of};
 ghost use Rattle.bench.specs.State.{process_at};
 ghost use Rattle.bench.proofs.RecordLaws.{MessageIn};
 ghost use Rattle.run.specs.Events.{moved};

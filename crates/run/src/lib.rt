@@ -18,7 +18,7 @@ use events::{arrive_in, crash_in, send_in, start_in, suspect_in};
 use process::Closing;
 use refusal::Refusal;
 
-pub fn event_in(s: &mut Bench, e: Event) -> Result<Closing, Refusal>
+pub fn event_in(s: &mut Bench, e: Event) -> Result<Option<Closing>, Refusal>
     requires sound { sound_of s.old ≡ true }
     requires in_range { InRange s.old.n s.old.t e }
     ensures bench { s.new ≡ moved e s.old }
@@ -28,9 +28,9 @@ pub fn event_in(s: &mut Bench, e: Event) -> Result<Closing, Refusal>
         Event::Start { process, value } => start_in(s, process, value)?,
         Event::Send { process, to } => send_in(s, process, to)?,
         Event::Arrive { from, to, message } => arrive_in(s, from, to, message)?,
-        Event::Close { process } => return close_in(s, process),
+        Event::Close { process } => return Ok(Some(close_in(s, process)?)),
         Event::Crash { process } => crash_in(s, process)?,
         Event::Suspect { process, other } => suspect_in(s, process, other)?,
     }
-    Ok(Closing::None)
+    Ok(None)
 }

@@ -1,6 +1,6 @@
 -- The pass of a close (`Passing`): a row is filled in where its process is a member and, unless one before it differed,
 -- compared.
-use Rattle.std.proofs.Common.{◌≡◌, ◌+◌, ◌/◌, ap, ap₂, sym, ◌∙◌, arith, rules}
+use Rattle.std.proofs.Common.{◌≡◌, ◌+◌, ◌/◌, ap, ap₂, sym, refl, ◌∙◌, arith, rules}
 use Rattle.sets.specs.TruthLaws.{and_on_r, and_off_r}
 use Rattle.global_data.specs.GlobalData.{fill_of, same_to}
 use Rattle.global_data.proofs.PassLaws.{passing_new, passing_lt, passing_skip, passing_more, passing_long, passing_done}
@@ -10,7 +10,10 @@ use Rattle.run.proofs.close.pass.Goals.{then-left-eq1+then-alike, then-left-eq1+
 use Rattle.run.proofs.close.pass.Goals as goal
 
 pub loop-left-init : goal.loop-left-init
-loop-left-init c = ?
+loop-left-init c =
+    let z : c.args.r / 16 ≡ 0 = omega arith in
+    let e = ap (marked c.args.old.present) c.requires.words.0 in
+    (omega arith, rw (z, e) (passing_new _ _ _ _ c.args.members (search rules) refl))
 
 pub fill_words-marks-requires : goal.fill_words-marks-requires
 fill_words-marks-requires c =

@@ -1,13 +1,15 @@
 -- What the laws of bench say of run's code, with the parts of the bench named that it reads and stores: each event's
 -- check and effect, and a turn of the loop.
-use Rattle.std.specs.Prelude.{◌≡◌, ◌≢◌, List, [], ◌∷◌, Bool, true, false, ℕ, zero, suc, ◌+◌, ◌-◌, ◌*◌, ◌/◌, ◌%◌, ◌^◌, ◌≤◌, ◌<◌, length, get_or, set, Result, Ok, Err}
+use Rattle.std.specs.Prelude.{◌≡◌, ◌≢◌, List, [], ◌∷◌, Bool, true, false, ℕ, zero, suc, ◌+◌, ◌-◌, ◌*◌, ◌/◌, ◌%◌, ◌^◌, ◌≤◌, ◌<◌, length, get_or, set, take, drop, ◌++◌, min, Result, Ok, Err, Option, Some, None}
 use Rattle.std.proofs.Math.Path.{refl, sym, ap, subst}
-use Rattle.std.proofs.Common.{◌∙◌}
+use Rattle.std.proofs.Common.{◌∙◌, ⊎_elim, take_all, drop_of_length-le}
+use Rattle.std.proofs.Math.Seq.{take-append_seam, drop-append_seam, take-length}
+use Rattle.std.specs.Option.{option_or}
 use Rattle.std.proofs.Math.Nat.{div-eq_of_lt}
 use native.Mathlib.Omega.{arith}
 use Rattle.sets.specs.Set.{insert_of, remove_of}
 use Rattle.sets.specs.Truth.{select, same, ◌or◌}
-use Rattle.sets.specs.TruthLaws.{and_first, Is, on, off, is, clash, select_on, select_off, check-zero, same_on, same_mk}
+use Rattle.sets.specs.TruthLaws.{and_first, Is, on, off, is, clash, select_on, select_off, check-zero, same_on, same_off, same_not, same_mk, le-or}
 use Rattle.global_data.specs.declared.GlobalData.{GlobalData}
 use Rattle.global_data.specs.GlobalData.{no_data, fill_from, all_same}
 use Rattle.global_data.proofs.PassLaws.{Passing}
@@ -20,7 +22,8 @@ use Rattle.process.proofs.ClosingLaws.{close_passed}
 use Rattle.process.specs.Steps.{has_decided, open_round_of, start_of, next_of, filled_of, closing_of}
 use Rattle.process.specs.Steps.{decides_of, advance_of, close_of, message_of, send_of, suspect_of, receive_of, adopt_of}
 use Rattle.refusal.specs.declared.Refusal.{Refusal}
-use Rattle.refusal.specs.Numbers.{refused}
+use Rattle.refusal.specs.Numbers.{refused, refusal_number}
+use Rattle.refusal.specs.NumberLaws.{refused_number}
 use Rattle.bench.specs.declared.Bench.{Bench}
 use Rattle.bench.specs.declared.Message.{Message}
 use Rattle.bench.specs.declared.Message.TheVariants.{Estimate, Decision}
@@ -29,11 +32,17 @@ use Rattle.bench.specs.declared.Event.TheVariants.{Start, Send, Arrive, Close, C
 use Rattle.bench.specs.State.{bench_of, process_at, sent_at, transit_at, crashed_at, with_process, with_sent, with_transit, with_crashed}
 use Rattle.bench.specs.Sound.{sound_of}
 use Rattle.bench.proofs.SoundLaws.{Bounds, sound_on, sound_step}
-use Rattle.bench.proofs.RecordLaws.{MessageIn, InRange}
-use Rattle.bench.specs.Refuse.{number_of, actor, is_crash, passes7, passes8, passes9, refuses}
+use Rattle.bench.proofs.RecordLaws.{MessageIn, InRange, decode_refused}
+use Rattle.bench.specs.Record.{decode_of, v2, decode_as}
+use Rattle.bench.proofs.RefuseLaws.{refusal_unread, refusal_event, refused-keeps, accepted_effect}
+use Rattle.bench.proofs.ClosingLaws.{closing_event}
+use Rattle.bench.specs.declared.Cause.TheVariants.{Empty, Spent, Refused}
+use Rattle.bench.specs.RunLoop.{effect_decoded, effect_by, effect_of, closing_in, ended_of, run_from}
+use Rattle.bench.proofs.RunLaws.{run_empty, run_spent, run-refused, run_accepted, run_sound}
+use Rattle.bench.specs.Refuse.{number_of, actor, is_crash, passes7, passes8, passes9, refuses, refusal}
 use Rattle.bench.specs.Effect.{opens_round, rows_at, sends, arrives, closes_as, effect}
-use Rattle.bench.specs.Closings.{closing_at}
-use Rattle.bench.specs.Calls.{answer_of}
+use Rattle.bench.specs.Closings.{closing_at, last_of}
+use Rattle.bench.specs.Calls.{answer_of, after_record, run_of}
 use Rattle.checks.specs.Checks.{first_failed, start_check, message_check, close_check}
 use Rattle.checks.specs.Checks.{crash_check, suspect_check, takes_started}
 use Rattle.run.specs.Events.{moved, verdict_of, closed_of, rows_in, marked}
@@ -64,6 +73,24 @@ module _ (k : ℕ) where
     pub refused_as : (r : Refusal) → Err r ≡ answer_of k → Err r ≡ verdict_of k x
     unfolding verdict_of
     refused_as r h = let e = answer_err r h in ap Err e.1 ∙ sym (select_off _ _ _ e.0)
+
+-- ---- a verdict with a number k
+module _ {A : Type 0} (k : ℕ) (x : A) where
+  pub verdict_ok : (z : A) → Ok z ≡ verdict_of k x → (k ≡ 0) × (z ≡ x)
+  unfolding verdict_of
+  verdict_ok z h = go (is (same k 0))
+    where
+      go : Is (same k 0) → (k ≡ 0) × (z ≡ x)
+      go (on e) = let p : Ok z ≡ Ok x = h ∙ select_on _ _ _ e in (same_on k 0 e, cc p)
+      go (off e) = let p : Ok z ≡ Err (refused k) = h ∙ select_off _ _ _ e in absurd (cc p)
+
+  pub verdict_err : (r : Refusal) → Err r ≡ verdict_of k x → (k ≢ 0) × (r ≡ refused k)
+  unfolding verdict_of
+  verdict_err r h = go (is (same k 0))
+    where
+      go : Is (same k 0) → (k ≢ 0) × (r ≡ refused k)
+      go (on e) = let p : Err r ≡ Ok x = h ∙ select_on _ _ _ e in absurd (cc p)
+      go (off e) = let p : Err r ≡ Err (refused k) = h ∙ select_off _ _ _ e in (same_not k 0 e, cc p)
 
 -- a verdict told on: the same refusal, or f of what was accepted
 module _ {A B : Type 0} (k : ℕ) (x : A) (f : A → B) where
@@ -320,3 +347,118 @@ module _ (x : Closing) (s : Bench) (a r next m : ℕ) (g : GlobalData) (alike : 
             ∙ rw (← closed.0) (sym (select_off (has_decided after) (with_process s a after) (opens_round s a after) d));
         round = λ d l m. omega (arith, (opened d).0, (opened d).1);
       }
+
+-- ---- one record of a sound bench, whose bytes are l
+module _ (s : Bench) (l : List ℕ) (h : sound_of s ≡ true) where
+  -- it is refused before an event is known
+  module _ (r : Refusal) (d : Err r ≡ decode_of s.n s.t l) where
+    unread : refusal s l ≡ refusal_number r
+    unread = refusal_unread s l h r (sym d)
+
+    pub unread_keeps : s ≡ after_record s l
+    unread_keeps = sym (refused-keeps s l (λ z. decode_refused s.n s.t l r (sym d) (sym unread ∙ z)))
+
+    pub unread_as : {A : Type 0} (x : A) → Err r ≡ verdict_of (refusal s l) x
+    unfolding verdict_of
+    unread_as x =
+        ap Err (sym (refused_number r) ∙ ap refused (sym unread))
+        ∙ sym (select_off _ _ _ (same_off _ 0 (λ z. decode_refused s.n s.t l r (sym d) (sym unread ∙ z))))
+
+  -- or it is what its event is
+  module _ (e : Event) (d : Ok e ≡ decode_of s.n s.t l) where
+    numbered : refusal s l ≡ refuses e s
+    numbered = refusal_event s l h e (sym d)
+
+    pub event_bench : moved e s ≡ after_record s l
+    unfolding moved effect_of effect_by effect_decoded decode_as
+    event_bench = go (is (same (refuses e s) 0))
+      where
+        go : Is (same (refuses e s) 0) → moved e s ≡ after_record s l
+        go (on z) =
+            select_on _ _ _ z
+            ∙ sym (accepted_effect s l (numbered ∙ same_on _ 0 z) ∙ rw (sym d))
+        go (off z) =
+            select_off _ _ _ z ∙ sym (refused-keeps s l (λ y. same_not _ 0 z (sym numbered ∙ y)))
+
+    pub event_verdict : verdict_of (refuses e s) (closing_at e s) ≡ verdict_of (refusal s l) (closing_in s l)
+    unfolding verdict_of
+    event_verdict = go (is (same (refuses e s) 0))
+      where
+        go : Is (same (refuses e s) 0) → verdict_of (refuses e s) (closing_at e s) ≡ verdict_of (refusal s l) (closing_in s l)
+        go (on z) = rw (numbered, closing_event s l e (numbered ∙ same_on _ 0 z) (sym d))
+        go (off z) = rw numbered (select_off _ _ _ z ∙ sym (select_off _ _ _ z))
+
+-- ---- the next at most 8 bytes, and those after them
+module _ (x t : List ℕ) where
+  parted : (k : ℕ) → length x ≡ k → (x ≡ take k (x ++ t)) × (t ≡ drop k (x ++ t))
+  parted k h = rw (← h) (sym (take-append_seam x t), sym (drop-append_seam x t))
+
+  pub chunk : (l : List ℕ) → l ≡ x ++ t → length x ≡ min 8 (length l) → (x ≡ take 8 l) × (t ≡ drop 8 l)
+  chunk l e h = ⊎_elim whole last (le-or 8 (length l))
+    where
+      whole : 8 ≤ length l → (x ≡ take 8 l) × (t ≡ drop 8 l)
+      whole f = rw e (parted 8 (omega arith))
+
+      last : length l < 8 → (x ≡ take 8 l) × (t ≡ drop 8 l)
+      last f =
+          let p : (x ≡ take (length l) l) × (t ≡ drop (length l) l) =
+          rw e (parted (length (x ++ t)) (omega (arith, ap length e))) in (
+            p.0 ∙ take-length l ∙ sym (take_all 8 l (omega arith)),
+            p.1 ∙ drop_of_length-le l {i = length l} (omega arith) ∙ sym (drop_of_length-le l {i = 8} (omega arith)),
+          )
+
+-- of two closings the later one
+pub later : (c d : Option Closing) → option_or d c ≡ last_of c d
+unfolding last_of select
+later c None = refl
+later c (Some x) = refl
+
+-- ---- the loop's head: the run from s on, of `rest`, gives what the whole run of l from b gives
+pub record Running (budget : ℕ) (l : List ℕ) (b s : Bench) (rest : List ℕ) (accepted : ℕ) (c : Option Closing) : Type 0 where
+  pub sound : sound_of s ≡ true
+  pub within_budget : accepted ≤ budget
+  pub gives : run_from v2 (budget - accepted) rest s accepted c (8 * accepted) ≡ run_of budget l b
+
+pub running_new : (budget : ℕ) (l : List ℕ) (b : Bench) → sound_of b ≡ true → Running budget l b b l 0 None
+running_new budget l b e =
+    record {
+      sound = e;
+      within_budget = omega arith;
+      gives = let z : budget - 0 ≡ budget = omega arith in rw (run_sound budget l b e, z);
+    }
+
+module _ (budget : ℕ) (l : List ℕ) (b s : Bench) (rest : List ℕ) (accepted : ℕ) (c : Option Closing)
+    (w : Running budget l b s rest accepted c) where
+  pub ends_empty : length rest ≡ 0 → ended_of s accepted Empty c (8 * accepted) ≡ run_of budget l b
+  ends_empty h = sym (run_empty rest s accepted c (8 * accepted) (budget - accepted) h) ∙ w.gives
+
+  pub ends_spent : length rest ≢ 0 → accepted ≡ budget → ended_of s accepted Spent c (8 * accepted) ≡ run_of budget l b
+  ends_spent h e = sym (run_spent rest s accepted c (8 * accepted) (budget - accepted) h (omega arith)) ∙ w.gives
+
+  module _ (h : length rest ≢ 0) (f : accepted ≢ budget) where
+    left : budget - accepted ≢ 0
+    left u = f (omega (arith, w.within_budget))
+
+    -- the next record is refused, which leaves the bench as it is
+    pub ends_refused : (r : Refusal) → Err r ≡ verdict_of (refusal s (take 8 rest)) (closing_in s (take 8 rest))
+        → ended_of (after_record s (take 8 rest)) accepted (Refused r) c (8 * accepted) ≡ run_of budget l b
+    ends_refused r v =
+        let p = verdict_err _ _ r v in
+        rw (p.1, refused-keeps s (take 8 rest) p.0)
+        (sym (run-refused rest s accepted c (8 * accepted) (budget - accepted) h left p.0) ∙ w.gives)
+
+    -- it is accepted, and x tells how it ended a round
+    pub goes_on : (x : Option Closing)
+        → Ok x ≡ verdict_of (refusal s (take 8 rest)) (closing_in s (take 8 rest))
+        → Running budget l b (after_record s (take 8 rest)) (drop 8 rest) (accepted + 1) (last_of c x)
+    goes_on x v =
+        let p = verdict_ok _ _ x v in
+        let one : budget - accepted - 1 ≡ budget - (accepted + 1) = omega arith in
+        let eight : 8 * accepted + 8 ≡ 8 * (accepted + 1) = omega arith in
+        record {
+          sound = sound_step s (take 8 rest) w.sound;
+          within_budget = omega (arith, f, w.within_budget);
+          gives =
+              rw (p.1, ← one, ← eight, accepted_effect s (take 8 rest) p.0)
+              (sym (run_accepted rest s accepted c (8 * accepted) (budget - accepted) h left p.0) ∙ w.gives);
+        }

@@ -22,7 +22,14 @@ struct Passed {
 
 // One pass over what the members sent in round r + 1, where it lies: an absent entry of `words`, which are those of the
 // old estimate, takes theirs, and each is compared with the old estimate.
-fn pass(rows: &[GlobalData; 256], r: usize, members: u16, n: usize, old: GlobalData, words: &mut [u32; 16]) -> Passed
+fn pass(
+    rows: &[GlobalData; 256],
+    r: usize,
+    members: u16,
+    n: usize,
+    old: GlobalData,
+    words: &mut [u32; 16],
+) -> Passed
     requires sizes { (r < 16) × (n ≤ 16) }
     requires words { (words.old ≡ old.values) × (length old.values ≡ 16) }
     ensures fills { marked result.marks words.new ≡ fill_from 16 members (rows_in rows.now r) old }

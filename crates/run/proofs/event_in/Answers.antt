@@ -19,7 +19,7 @@ send_in-requires-clause-round c = round_last _ c.requires.sound _
 
 pub arrive_in-requires-clause-bounds : goal.arrive_in-requires-clause-bounds
 unfolding Low
-arrive_in-requires-clause-bounds c = 
+arrive_in-requires-clause-bounds c =
     let l = rw c.in-Arrive.is at (event_low _ c.requires.sound _ c.requires.in_range) in
     (l.0, l.1, (sizes_low _ c.requires.sound).0)
 
@@ -29,7 +29,7 @@ arrive_in-requires-clause-message c = (rw c.in-Arrive.is at (event_low _ c.requi
 
 pub close_in-requires-clause-sizes : goal.close_in-requires-clause-sizes
 unfolding Low
-close_in-requires-clause-sizes c = 
+close_in-requires-clause-sizes c =
     let z = sizes_low _ c.requires.sound in
     (rw c.in-Close.is at (event_low _ c.requires.sound _ c.requires.in_range), z.0, z.1)
 

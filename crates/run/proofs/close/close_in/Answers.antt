@@ -53,7 +53,7 @@ pub row_index-row-requires : goal.row_index-row-requires
 unfolding process_at
 row_index-row-requires c =
     let d = (closing (goal.at.row_index-row-requires c).After-finish-c).round (sym c.has_decided.ensures ∙ c.if-not-has_decided.true)
-        c.requires.sizes.2 c.requires.round in
+    c.requires.sizes.2 c.requires.round in
     (c.requires.sizes.0, d.0, d.1)
 
 pub returns-then-not-has_decided-clause-bench : goal.returns-then-not-has_decided-clause-bench

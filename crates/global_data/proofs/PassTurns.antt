@@ -87,8 +87,8 @@ module _ (n all : ℕ) (rows : ℕ → GlobalData) (old : GlobalData) where
       record {
         fills = rw ef (sym (fill_first m k rows t.member g t.least (15 - k) 16 (omega (arith, t.low))) ∙ w.fills);
         compares =
-          rw es (swap (same_to n (rows k) old) ok (all_same 16 n (remove_of m k) rows old))
-          ∙ ap (λ (b : Bool). ok and b) (sym (same_first m k rows t.member n old t.low)) ∙ w.compares;
+            rw es (swap (same_to n (rows k) old) ok (all_same 16 n (remove_of m k) rows old))
+            ∙ ap (λ (b : Bool). ok and b) (sym (same_first m k rows t.member n old t.low)) ∙ w.compares;
       }
     where
       swap : (a b c : Bool) → ((a and b) and c) ≡ (b and (a and c))
@@ -99,6 +99,7 @@ module _ (n all : ℕ) (rows : ℕ → GlobalData) (old : GlobalData) where
   -- g keeps its sixteen words
   pub pass_done : {m : ℕ} {g : GlobalData} {ok : Bool} → m ≡ 0 → Passing n all rows old m g ok
       → (g ≡ fill_from 16 all rows old) × (ok ≡ all_same 16 n all rows old)
-  pass_done {m} {g} {ok} z w =
-      (sym (fill_low m rows g 16 (λ i l. rw z (has_empty i))) ∙ w.fills,
-      sym (and_on_r ok _ (all_same_mk 16 n m rows old (λ q b s. clash (has m q) s (rw z (has_empty q))))) ∙ w.compares)
+  pass_done {m} {g} {ok} z w = (
+    sym (fill_low m rows g 16 (λ i l. rw z (has_empty i))) ∙ w.fills,
+    sym (and_on_r ok _ (all_same_mk 16 n m rows old (λ q b s. clash (has m q) s (rw z (has_empty q))))) ∙ w.compares,
+  )

@@ -260,7 +260,13 @@ impl Process {
 
     // Steps 4 and 5: it closes its round, where `row` gives what each process sent in it. One pass over what the others
     // of the next set sent fills the estimate and finds whether all are alike.
-    pub fn close_by<F: Fn(usize) -> GlobalData>(self, n: usize, t: usize, a: usize, row: F) -> Closed
+    pub fn close_by<F: Fn(usize) -> GlobalData>(
+        self,
+        n: usize,
+        t: usize,
+        a: usize,
+        row: F,
+    ) -> Closed
         requires n_bound { (n ≤ 16) × (t < 16) }
         requires a_bound { a < 16 }
         requires le_round { (1 ≤ self.round) × (self.round ≤ 16) }

@@ -28,10 +28,10 @@ loop-y-preserved-then-alike g c =
       t.others,
       c.type_inv.values,
       λ rows h.
-      let e = h _ _ t.low c.row-given.ensures in
-      pass_turn c.args.n c.args.members rows c.args.old t (c.loop-y.invariant.3 rows h) _ _
-      (rw (← e) (sym c.fill_words-present.ensures))
-      (rw (← e) (c.same-alike.ensures ∙ sym (and_on_r _ _ c.if-alike.true))),
+          let e = h _ _ t.low c.row-given.ensures in
+          pass_turn c.args.n c.args.members rows c.args.old t (c.loop-y.invariant.3 rows h) _ _
+          (rw (← e) (sym c.fill_words-present.ensures))
+          (rw (← e) (c.same-alike.ensures ∙ sym (and_on_r _ _ c.if-alike.true))),
     )
 
 pub loop-y-preserved : goal.loop-y-preserved
@@ -41,10 +41,10 @@ loop-y-preserved g c =
       t.others,
       c.type_inv.values,
       λ rows h.
-      let e = h _ _ t.low c.row-given.ensures in
-      pass_turn c.args.n c.args.members rows c.args.old t (c.loop-y.invariant.3 rows h) _ c.loop-y.alike
-      (rw (← e) (sym c.fill_words-present.ensures))
-      (c.if-alike.false ∙ sym (and_off_r _ _ c.if-alike.false)),
+          let e = h _ _ t.low c.row-given.ensures in
+          pass_turn c.args.n c.args.members rows c.args.old t (c.loop-y.invariant.3 rows h) _ c.loop-y.alike
+          (rw (← e) (sym c.fill_words-present.ensures))
+          (c.if-alike.false ∙ sym (and_off_r _ _ c.if-alike.false)),
     )
 
 pub returns : goal.returns

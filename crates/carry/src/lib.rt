@@ -7,9 +7,10 @@ ghost use Rattle.sets.specs.Truth.{less, select, check};
 ghost use Rattle.bench.specs.Calls.{answer_of};
 ghost use Rattle.bench.specs.Carry.{plain_data, plain_process, carry_of};
 
-use bench::{Answer, Bench, Carried, Refusal};
+use bench::{Bench, Carried};
 use global_data::GlobalData;
 use process::Process;
+use refusal::Refusal;
 use soundness::is_sound;
 
 // Whether a word has no high half; under an absent entry it does not count. No branch, so that the loop over the
@@ -62,16 +63,16 @@ fn rows_plain(rows: [GlobalData; 256]) -> bool
 }
 
 // The first check that fails is the answer.
-fn answer_by(sound: bool, plain: bool) -> Answer
+fn answer_by(sound: bool, plain: bool) -> Result<(), Refusal>
     ensures { result ≡ answer_of (check sound 2 (check plain 16 0)) }
 {
     if !sound {
-        return Answer::Refused(Refusal { number: 2 });
+        return Err(Refusal::Damaged);
     }
     if !plain {
-        return Answer::Refused(Refusal { number: 16 });
+        return Err(Refusal::LargeValue);
     }
-    Answer::Accepted
+    Ok(())
 }
 
 // The words of a bench that is not refused are its words in the new form.

@@ -3,14 +3,15 @@ use mathlib.Core.Path.{ap, ap₂, ◌∙◌}
 use mathlib.Core.Bool.{Bool}
 use Rattle.sets.specs.Truth.{check}
 use Rattle.sets.specs.Tests.{both_are}
-use Rattle.bench.specs.declared.Answer.{Answer}
+use Rattle.std.specs.Prelude.{⊤, Result}
+use Rattle.refusal.specs.declared.Refusal.{Refusal}
 use Rattle.bench.specs.declared.Bench.{Bench}
 use Rattle.bench.specs.declared.Carried.{Carried}
 use Rattle.bench.specs.Calls.{answer_of}
 use Rattle.bench.specs.Carry.{plain_bench, carry_refusal, carry_of}
 use Rattle.carry.proofs.carry.Goals as goal
 
-abbrev with-answer : Bench → Answer → Carried
+abbrev with-answer : Bench → Result ⊤ Refusal → Carried
 with-answer s a = record { answer = a; bench = s }
 
 pub returns : goal.returns

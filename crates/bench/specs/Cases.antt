@@ -1,6 +1,6 @@
 -- The starred cases 1 to 8 of document 01, starts of the requests and weeks that are carried over, as one table, and
 -- one theorem that the definitions give each of them its answers, how its rounds ended (request C-11) and its end.
-use Rattle.std.specs.Prelude.{◌≡◌, refl, List, [], ◌∷◌, Bool, true, false, ℕ, zero, suc, ◌+◌, ◌*◌, ◌/◌, ◌%◌}
+use Rattle.std.specs.Prelude.{◌≡◌, refl, List, [], ◌∷◌, Bool, true, false, ℕ, zero, suc, ◌+◌, ◌*◌, ◌/◌, ◌%◌, Option, Some, None}
 use Rattle.std.specs.Int.Count.{ones}
 use Rattle.sets.specs.Lists.{each, every, every_in}
 use Rattle.sets.specs.Set.{has, insert_of, remove_of, union_of, intersection_of, difference_of, all_of, size_of, within}
@@ -27,7 +27,7 @@ use Rattle.bench.specs.Record.{value_of, read_of, start_fits, check_diet, decode
 use Rattle.bench.specs.Refuse.{number_of, actor, is_crash, passes7, passes8}
 use Rattle.bench.specs.Refuse.{passes9, refuses, refuses_decoded, refusal_by}
 use Rattle.bench.specs.Effect.{opens_round, rows_at, sends, arrives, closes_as, effect}
-use Rattle.bench.specs.Closings.{closing_at, is_none, last_of}
+use Rattle.bench.specs.Closings.{closing_at, last_of}
 use Rattle.bench.specs.Calls.{event_in, accepted_one, after_events, closing_from, step_by, step_of}
 use Rattle.bench.specs.Carry.{plain_data, plain_process, plain_bench, carry_refusal}
 
@@ -95,13 +95,17 @@ answers_of : Form → Bench → List (List ℕ) → List ℕ
 answers_of f s [] = []
 answers_of f s (r ∷ rs) = refusal_by f s r ∷ answers_of f (step_by f s r).bench rs
 
--- the closings that are not none, the first record being number k
+-- the closing of record k, if there is one, before the others
+told : ℕ → Option Closing → List Closes → List Closes
+told k None rest = rest
+told k (Some c) rest = at k c ∷ rest
+
+-- the closings that there are, the first record being number k
 closings_of : ℕ → Bench → List (List ℕ) → List Closes
 closings_of k s [] = []
 closings_of k s (r ∷ rs) =
     let e = step_of s r in
-    let rest = closings_of (suc k) e.bench rs in
-    select (is_none e.closing) rest (at k e.closing ∷ rest)
+    told k e.closing (closings_of (suc k) e.bench rs)
 
 end_of : Form → Bench → List (List ℕ) → Bench
 end_of f s [] = s
@@ -124,7 +128,7 @@ same_closings [] (y ∷ m) = false
 same_closings (x ∷ l) [] = false
 same_closings (x ∷ l) (y ∷ m) =
     same x.record_number y.record_number
-    and (same (closing_number x.closing) (closing_number y.closing) and same_closings l m)
+    and (same (closing_number (Some x.closing)) (closing_number (Some y.closing)) and same_closings l m)
 
 same_entries : ℕ → Process → List Entry → Bool
 same_entries k p [] = true
@@ -434,7 +438,7 @@ states_pass =
 -- every case passes: the checker computes it from the definitions
 pub cases_hold : (every_in passes table and (passes_from held held_case and (every_in week_passes weeks and states_pass)))
     ≡ true
-unfolding bytes start_with start send arrive close crash suspect answers_of closings_of end_of same_bool same_list
+unfolding bytes start_with start send arrive close crash suspect answers_of told closings_of end_of same_bool same_list
     same_closings same_entries one_less same_line passes_from passes
     round3 no_refusal all_three case1 case2 case3 case4and6 sizes case7 case8 case9 case10 values too_much held held_case
     table week_passes carried_over too_large unheld weeks states_pass
@@ -446,6 +450,6 @@ unfolding bytes start_with start send arrive close crash suspect answers_of clos
     sound_data sound_process sound_of
     word_of one_to uses_b fields message_from event_of parts_of value_of read_of
     start_fits check_diet decode_of check number_of actor is_crash passes7 passes8 passes9 refuses refuses_decoded
-    opens_round rows_at sends arrives closes_as effect closing_at is_none last_of decode_as refusal_by
+    opens_round rows_at sends arrives closes_as effect closing_at last_of decode_as refusal_by
     event_in accepted_one after_events closing_from step_of plain_data plain_process plain_bench carry_refusal
 cases_hold = refl

@@ -1,7 +1,7 @@
 -- The protocol steps before request C-15, where a value was one number of 32 bits: two entries were the same where
 -- they were absent in both or one number in both. OldRulesLaws shows that the steps of now do the same; of these only
 -- the entries are named in a claim, that of carried ones.
-use Rattle.std.specs.Prelude.{Bool, true, false, ℕ, ◌+◌, get_or}
+use Rattle.std.specs.Prelude.{Bool, true, false, ℕ, ◌+◌, get_or, Option, Some}
 use Rattle.sets.specs.Lists.{every}
 use Rattle.sets.specs.Set.{has}
 use Rattle.sets.specs.Truth.{◌and◌, same, select}
@@ -59,10 +59,11 @@ old_effect (Close a) s = closes_as s a (old_close_of s.n s.t a (rows_at s (proce
 old_effect (Crash a) s = effect (Crash a) s
 old_effect (Suspect a b) s = effect (Suspect a b) s
 
-unfoldable pub old_closing_at : Event → Bench → Closing
+unfoldable pub old_closing_at : Event → Bench → Option Closing
 old_closing_at (Start a v) s = closing_at (Start a v) s
 old_closing_at (Send a b) s = closing_at (Send a b) s
 old_closing_at (Arrive a b m) s = closing_at (Arrive a b m) s
-old_closing_at (Close a) s = old_closing_of s.n s.t a (rows_at s (process_at s a).round) (process_at s a)
+old_closing_at (Close a) s =
+    Some (old_closing_of s.n s.t a (rows_at s (process_at s a).round) (process_at s a))
 old_closing_at (Crash a) s = closing_at (Crash a) s
 old_closing_at (Suspect a b) s = closing_at (Suspect a b) s

@@ -1,6 +1,6 @@
 -- Closes of explicit processes, as one table, and one theorem that the definitions give each of them
 -- its end: the checker computes it.
-use Rattle.std.specs.Prelude.{◌≡◌, refl, List, [], ◌∷◌, Bool, true, false, not, ℕ, zero, suc, ◌+◌, ◌*◌}
+use Rattle.std.specs.Prelude.{◌≡◌, refl, Some, List, [], ◌∷◌, Bool, true, false, not, ℕ, zero, suc, ◌+◌, ◌*◌}
 use Rattle.sets.specs.Lists.{each, every}
 use Rattle.sets.specs.Set.{has, insert_of, remove_of, union_of, intersection_of, difference_of, all_of}
 use Rattle.sets.specs.Truth.{◌and◌, ◌or◌, same, select}
@@ -99,7 +99,7 @@ passes c =
     let rows = rows_of (rows_from c.rows) in
     let p = close_of c.n c.t c.a rows (process_of_site c.start) in
     let e = c.end in
-    same (closing_number (closing_of c.n c.t c.a rows (process_of_site c.start))) (closing_number e.closing)
+    same (closing_number (Some (closing_of c.n c.t c.a rows (process_of_site c.start)))) (closing_number (Some e.closing))
     and (same_bool (has_decided p) (not (opens_next e.closing))
     and (same p.round e.round
     and (same p.previous e.previous

@@ -36,10 +36,8 @@ pub struct Process {
 }
 
 // How a round ended (request C-11).
-#[derive(Clone, Copy)]
+#[derive(Clone, Copy, Debug, PartialEq, Eq)]
 pub enum Closing {
-    // there was no close
-    None,
     // the next round is open
     NextRound,
     // decided: the sets and the estimates agree
@@ -60,12 +58,7 @@ impl Closing {
     fn opens_next(self) -> bool
         ensures { result ≡ opens_next self }
     {
-        match self {
-            Closing::None => false,
-            Closing::NextRound => true,
-            Closing::Agreed => false,
-            Closing::LastRound => false,
-        }
+        matches!(self, Closing::NextRound)
     }
 }
 

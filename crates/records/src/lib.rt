@@ -7,8 +7,9 @@ ghost use Rattle.bench.specs.Record.{fields, message_from, event_of, parts_of, c
 ghost use Rattle.global_data.specs.GlobalData.{value_in, diet_fits};
 ghost use Rattle.sets.specs.Truth.{◌and◌, ◌or◌, same, less, one_to, select};
 
-use bench::{Decoded, Event, Message, Refusal};
+use bench::{Event, Message};
 use global_data::{diet_fits, value_in};
+use refusal::Refusal;
 
 fn word(a: u8, b: u8, c: u8, d: u8) -> u32
     ensures { result ≡ word_of a b c d }
@@ -102,21 +103,21 @@ fn diet_ok(kind: u8, v: u32) -> bool
 }
 
 // A record of a kind 1 to 6.
-fn known(n: u8, t: u8, kind: u8, a: u8, b: u8, r: u8, v: u32) -> Decoded
+fn known(n: u8, t: u8, kind: u8, a: u8, b: u8, r: u8, v: u32) -> Result<Event, Refusal>
     requires { one_to 6 kind ≡ true }
     ensures { result ≡ check_diet (parts_of n t kind a b r v) }
 {
     if !fields_ok(n, t, kind, a, b, r, v) {
-        return Decoded::Refused(Refusal { number: 5 });
+        return Err(Refusal::Field);
     }
     if !diet_ok(kind, v) {
-        return Decoded::Refused(Refusal { number: 15 });
+        return Err(Refusal::Diet);
     }
-    Decoded::Got(event(kind, from_zero(a), from_zero(b), r, v))
+    Ok(event(kind, from_zero(a), from_zero(b), r, v))
 }
 
 // By kind first, so that the compiler makes of each kind its own few tests.
-fn parts(n: u8, t: u8, kind: u8, a: u8, b: u8, r: u8, v: u32) -> Decoded
+fn parts(n: u8, t: u8, kind: u8, a: u8, b: u8, r: u8, v: u32) -> Result<Event, Refusal>
     ensures { result ≡ check_diet (parts_of n t kind a b r v) }
 {
     match kind {
@@ -126,16 +127,16 @@ fn parts(n: u8, t: u8, kind: u8, a: u8, b: u8, r: u8, v: u32) -> Decoded
         4 => known(n, t, 4, a, b, r, v),
         5 => known(n, t, 5, a, b, r, v),
         6 => known(n, t, 6, a, b, r, v),
-        _ => Decoded::Refused(Refusal { number: 4 }),
+        _ => Err(Refusal::Kind),
     }
 }
 
 // Any bytes, for a bench of n processes and crash limit t.
-pub fn decode(n: u8, t: u8, bytes: &[u8]) -> Decoded
+pub fn decode(n: u8, t: u8, bytes: &[u8]) -> Result<Event, Refusal>
     ensures { result ≡ decode_of n t bytes.now }
 {
     if bytes.len() != 8 {
-        return Decoded::Refused(Refusal { number: 3 });
+        return Err(Refusal::Length);
     }
     let v = word(bytes[4], bytes[5], bytes[6], bytes[7]);
     parts(n, t, bytes[0], bytes[1], bytes[2], bytes[3], v)

@@ -1,7 +1,7 @@
 -- One turn of run's loop, as its code takes it: what is known at the loop's head, what each way of a turn comes to,
 -- and each event's check and effect on the parts that it changes. A turn is one of the four laws of run;
 -- the rest is the definitions with their parts named.
-use Rattle.std.specs.Prelude.{◌≡◌, ◌≢◌, List, [], ◌∷◌, Bool, true, false, ℕ, zero, suc, ◌+◌, ◌-◌, ◌*◌, ◌/◌, ◌%◌, ◌≤◌, ◌<◌, length, get_or, set, drop}
+use Rattle.std.specs.Prelude.{◌≡◌, ◌≢◌, List, [], ◌∷◌, Bool, true, false, ℕ, zero, suc, ◌+◌, ◌-◌, ◌*◌, ◌/◌, ◌%◌, ◌≤◌, ◌<◌, length, get_or, set, drop, Option, Some, None, Result, Ok, Err}
 use Rattle.std.proofs.Math.Path.{refl, sym, ap, subst}
 use Rattle.std.proofs.Common.{◌∙◌, length-take, length-drop}
 use native.Mathlib.Omega.{arith}
@@ -15,7 +15,10 @@ use Rattle.global_data.specs.GlobalData.{no_data}
 use Rattle.global_data.proofs.PassLaws.{Passing}
 use Rattle.process.specs.declared.Process.{Process}
 use Rattle.process.specs.declared.Closing.{Closing}
-use Rattle.process.specs.declared.Closing.TheVariants.{None}
+use Rattle.refusal.specs.declared.Refusal.{Refusal}
+use Rattle.refusal.specs.declared.Refusal.TheVariants.{Length}
+use Rattle.refusal.specs.Numbers.{refusal_number, refused}
+use Rattle.refusal.specs.NumberLaws.{refused_number}
 use Rattle.process.specs.Laws.{decide_decided, open_round}
 use Rattle.process.specs.Fields.{with_estimate}
 use Rattle.process.specs.ClosingLaws.{closing_by, finish_of}
@@ -23,14 +26,11 @@ use Rattle.process.proofs.ClosingLaws.{close_passed}
 use Rattle.process.specs.Steps.{has_decided, no_process, open_round_of, start_of, next_of, filled_of, closing_of}
 use Rattle.process.specs.Steps.{decides_of, advance_of, close_of, message_of, send_of, suspect_of, receive_of, adopt_of}
 use Rattle.bench.specs.declared.Bench.{Bench}
-use Rattle.bench.specs.declared.Refusal.{Refusal}
 use Rattle.bench.specs.declared.Message.{Message}
 use Rattle.bench.specs.declared.Message.TheVariants.{Estimate, Decision}
 use Rattle.bench.specs.declared.Event.{Event}
 use Rattle.bench.specs.declared.Event.TheVariants.{Start, Send, Arrive, Close, Crash, Suspect}
-use Rattle.bench.specs.declared.Decoded.{Decoded}
-use Rattle.bench.specs.declared.Decoded.TheVariants.{Got, Refused}
-use Rattle.bench.specs.declared.Cause.TheVariants.{Empty, Spent, Refused as RefusedRun}
+use Rattle.bench.specs.declared.Cause.TheVariants.{Empty, Spent, Refused}
 use Rattle.bench.specs.State.{process_at, sent_at, transit_at, crashed_at, with_process, with_sent, with_transit, with_crashed}
 use Rattle.bench.specs.Sound.{sound_of}
 use Rattle.bench.proofs.SoundLaws.{Bounds, sound_on, sound_step}
@@ -42,9 +42,9 @@ use Rattle.bench.specs.Effect.{opens_round, rows_at, sends, arrives, closes_as, 
 use Rattle.bench.specs.RunLoop.{effect_decoded, effect_by, effect_of}
 use Rattle.bench.specs.Closings.{closing_at, last_of}
 use Rattle.bench.specs.RunLoop.{closing_in}
-use Rattle.bench.proofs.ClosingLaws.{close_some, closing_event}
+use Rattle.bench.proofs.ClosingLaws.{closing_event}
 use Rattle.bench.specs.LastLaws.{last_none, last_close}
-use Rattle.bench.specs.Calls.{refused, run_of}
+use Rattle.bench.specs.Calls.{run_of}
 use Rattle.bench.specs.RunLoop.{ended_of, run_from}
 use Rattle.bench.proofs.RunLaws.{run_empty, run_spent, run-refused, run_accepted, run_sound}
 use Rattle.checks.specs.Checks.{first_failed, start_check, message_check, close_check}
@@ -52,7 +52,7 @@ use Rattle.checks.specs.Checks.{crash_check, suspect_check, takes_started}
 
 -- ---- the loop's head: of the schedule l, `at` bytes are taken in `accepted` records, from b to s; c is the last
 -- closing so far
-pub record Running (budget : ℕ) (l : List ℕ) (b s : Bench) (at accepted : ℕ) (c : Closing) : Type 0 where
+pub record Running (budget : ℕ) (l : List ℕ) (b s : Bench) (at accepted : ℕ) (c : Option Closing) : Type 0 where
   pub sound : sound_of s ≡ true
   pub within_bytes : at ≤ length l
   pub within_budget : accepted ≤ budget
@@ -68,13 +68,13 @@ running_new budget l b e =
     }
 
 -- a turn in which the event e was decoded
-pub record Turn (budget : ℕ) (l : List ℕ) (b s : Bench) (at accepted : ℕ) (c : Closing) (d : Decoded) : Type 0 where
+pub record Turn (budget : ℕ) (l : List ℕ) (b s : Bench) (at accepted : ℕ) (c : Option Closing) (d : Result Event Refusal) : Type 0 where
   pub running : Running budget l b s at accepted c
   pub left : accepted ≢ budget
   pub whole : at + 8 ≤ length l
   pub decoded : decode_of s.n s.t (take (at + 8 - at) (drop at l)) ≡ d
 
-module _ (budget : ℕ) (l : List ℕ) (b s : Bench) (at accepted : ℕ) (c : Closing) where
+module _ (budget : ℕ) (l : List ℕ) (b s : Bench) (at accepted : ℕ) (c : Option Closing) where
   some_left : at < length l → length (drop at l) ≢ 0
   some_left h e = omega (arith, length-drop at l)
 
@@ -91,53 +91,53 @@ module _ (budget : ℕ) (l : List ℕ) (b s : Bench) (at accepted : ℕ) (c : Cl
   -- refused, by the number of the next record
   ends_refused : Running budget l b s at accepted c → at < length l → accepted ≢ budget → (k : ℕ)
       → refusal s (take 8 (drop at l)) ≡ k
-      → k ≢ 0 → ended_of s accepted (RefusedRun (refused k)) c at ≡ run_of budget l b
+      → k ≢ 0 → ended_of s accepted (Refused (refused k)) c at ≡ run_of budget l b
   ends_refused w h f k e z =
       sym (run-refused (drop at l) s accepted c at (budget - accepted) (some_left h)
       (λ u. f (omega (arith, w.within_budget))) (rw e z)
-      ∙ ap (λ k. ended_of s accepted (RefusedRun (refused k)) c at) e) ∙ w.gives
+      ∙ ap (λ k. ended_of s accepted (Refused (refused k)) c at) e) ∙ w.gives
 
   -- fewer than 8 bytes are left
   pub ends_short : Running budget l b s at accepted c → at < length l → accepted ≢ budget → length l - at < 8
-      → ended_of s accepted (RefusedRun (refused 3)) c at ≡ run_of budget l b
+      → ended_of s accepted (Refused (refused 3)) c at ≡ run_of budget l b
   ends_short w h f g =
-      let r : Refusal = record { number = 3 } in
       ends_refused w h f 3
-      (refusal_unread s (take 8 (drop at l)) w.sound r
+      (refusal_unread s (take 8 (drop at l)) w.sound Length
       (decode_size s.n s.t (take 8 (drop at l))
       (λ e. omega (arith, length-take 8 (drop at l), length-drop at l))))
       (omega arith)
 
   -- the next 8 bytes, as the code takes them
-  next : (d : Decoded) → Turn budget l b s at accepted c d → decode_of s.n s.t (take 8 (drop at l)) ≡ d
+  next : (d : Result Event Refusal) → Turn budget l b s at accepted c d → decode_of s.n s.t (take 8 (drop at l)) ≡ d
   next d w = let e : at + 8 - at ≡ 8 = omega arith in rw e at w.decoded
 
-  pub ends_unread : (r : Refusal) → Turn budget l b s at accepted c (Refused r)
-      → ended_of s accepted (RefusedRun r) c at ≡ run_of budget l b
+  pub ends_unread : (r : Refusal) → Turn budget l b s at accepted c (Err r)
+      → ended_of s accepted (Refused r) c at ≡ run_of budget l b
   ends_unread r w =
-      ends_refused w.running (omega (arith, w.whole)) w.left r.number
-      (refusal_unread s (take 8 (drop at l)) w.running.sound r (next (Refused r) w))
-      (decode_refused s.n s.t (take 8 (drop at l)) r (next (Refused r) w))
+      ap (λ (x : Refusal). ended_of s accepted (Refused x) c at) (sym (refused_number r))
+      ∙ ends_refused w.running (omega (arith, w.whole)) w.left (refusal_number r)
+      (refusal_unread s (take 8 (drop at l)) w.running.sound r (next (Err r) w))
+      (decode_refused s.n s.t (take 8 (drop at l)) r (next (Err r) w))
 
   -- k is what the code's check of the event e gives
-  pub ends_by_lem : (e : Event) → Turn budget l b s at accepted c (Got e) → (k : ℕ) → k ≡ refuses e s → k ≢ 0
-      → ended_of s accepted (RefusedRun (refused k)) c at ≡ run_of budget l b
+  pub ends_by_lem : (e : Event) → Turn budget l b s at accepted c (Ok e) → (k : ℕ) → k ≡ refuses e s → k ≢ 0
+      → ended_of s accepted (Refused (refused k)) c at ≡ run_of budget l b
   ends_by_lem e w k p z =
       ends_refused w.running (omega (arith, w.whole)) w.left k
-      (refusal_event s (take 8 (drop at l)) w.running.sound e (next (Got e) w) ∙ sym p) z
+      (refusal_event s (take 8 (drop at l)) w.running.sound e (next (Ok e) w) ∙ sym p) z
 
   -- it is accepted, d is the bench that the code makes, and x the closing that it has then
-  pub goes : (e : Event) → Turn budget l b s at accepted c (Got e) → (k : ℕ) → k ≡ refuses e s → k ≡ 0 → (d : Bench)
+  pub goes : (e : Event) → Turn budget l b s at accepted c (Ok e) → (k : ℕ) → k ≡ refuses e s → k ≡ 0 → (d : Bench)
       → d ≡ effect e s
-      → (x : Closing) → x ≡ last_of c (closing_at e s)
+      → (x : Option Closing) → x ≡ last_of c (closing_at e s)
       → Running budget l b d (at + 8) (accepted + 1) x
   unfolding effect_of effect_by decode_as effect_decoded
   goes e w k p z d q x y =
       let v = w.running in
       let bytes = take 8 (drop at l) in
-      let o : refusal s bytes ≡ 0 = refusal_event s bytes v.sound e (next (Got e) w) ∙ sym p ∙ z in
-      let f : effect_of s bytes ≡ d = rw (next (Got e) w) (sym q) in
-      let g : last_of c (closing_in s bytes) ≡ x = ap (last_of c) (closing_event s bytes e o (next (Got e) w)) ∙ sym y in
+      let o : refusal s bytes ≡ 0 = refusal_event s bytes v.sound e (next (Ok e) w) ∙ sym p ∙ z in
+      let f : effect_of s bytes ≡ d = rw (next (Ok e) w) (sym q) in
+      let g : last_of c (closing_in s bytes) ≡ x = ap (last_of c) (closing_event s bytes e o (next (Ok e) w)) ∙ sym y in
       let one : budget - accepted - 1 ≡ budget - (accepted + 1) = omega arith in
       record {
         sound = rw (← f, ← accepted_effect s bytes o) (sound_step s bytes v.sound);
@@ -169,7 +169,7 @@ low_in n t p q (Close a) h = omega arith
 low_in n t p q (Crash a) h = omega arith
 low_in n t p q (Suspect a b) h = (omega (arith, h.first), omega (arith, h.second))
 
-module _ {budget : ℕ} {l : List ℕ} {b s : Bench} {at accepted : ℕ} {c : Closing} {d : Decoded}
+module _ {budget : ℕ} {l : List ℕ} {b s : Bench} {at accepted : ℕ} {c : Option Closing} {d : Result Event Refusal}
     (w : Turn budget l b s at accepted c d) where
   pub turn_bounds : Bounds s
   turn_bounds = sound_on s w.running.sound
@@ -187,7 +187,7 @@ module _ {budget : ℕ} {l : List ℕ} {b s : Bench} {at accepted : ℕ} {c : Cl
   pub turn_less : length l - (at + 8) < length l - at
   turn_less = omega (arith, w.whole)
 
-  pub turn_low : (e : Event) → d ≡ Got e → Low e
+  pub turn_low : (e : Event) → d ≡ Ok e → Low e
   turn_low e p =
       low_in s.n s.t turn_bounds.few turn_bounds.limit e
       (decode_range s.n s.t (take (at + 8 - at) (drop at l)) e (w.decoded ∙ p))
@@ -371,7 +371,7 @@ pub opened_marked : (s : Bench) (a i m : ℕ) (g : GlobalData) (p : Process)
 opened_marked s a i m g p = rw (remarked s.sent (a * 16 + i) m g)
 
 -- ---- the closing: of a close it is the new one, and any other event keeps the one before
-module _ (c : Closing) (s : Bench) where
+module _ (c : Option Closing) (s : Bench) where
   pub kept_start : (a v : ℕ) → c ≡ last_of c (closing_at (Start a v) s)
   unfolding closing_at
   kept_start a v = sym (last_none c)
@@ -393,14 +393,14 @@ module _ (c : Closing) (s : Bench) where
   kept_suspect a b = sym (last_none c)
 
 -- what a close of a comes to: q is the process then, x the code's closing
-pub record Closes (c x : Closing) (s : Bench) (a : ℕ) (q : Process) : Type 0 where
-  pub closing : x ≡ last_of c (closing_at (Close a) s)
+pub record Closes (c : Option Closing) (x : Closing) (s : Bench) (a : ℕ) (q : Process) : Type 0 where
+  pub closing : Some x ≡ last_of c (closing_at (Close a) s)
   pub decides : has_decided q ≡ true → with_process s a q ≡ effect (Close a) s
   pub opens : has_decided q ≡ false → (i : ℕ) → i ≡ q.round - 1 → opened_at s a i q ≡ effect (Close a) s
   pub round : has_decided q ≡ false → s.t < 16 → (process_at s a).round ≤ s.t + 1 → (1 ≤ q.round) × (q.round ≤ 16)
 
 -- once its pass is made: `next` is the code's next set, and q what it makes of a but for the estimate
-module _ (c x : Closing) (s : Bench) (a r next seen : ℕ) (g : GlobalData) (alike : Bool) (q : Process)
+module _ (c : Option Closing) (x : Closing) (s : Bench) (a r next seen : ℕ) (g : GlobalData) (alike : Bool) (q : Process)
     (e : r ≡ (process_at s a).round - 1) (f : next ≡ next_of a (process_at s a))
     (w : Passing s.n (remove_of next a) (rows_in s.sent r) (process_at s a).estimate seen 0 g alike)
     (few : s.n ≤ 16) (k : (q ≡ finish_of s.n s.t a next alike (process_at s a))
@@ -426,7 +426,7 @@ module _ (c x : Closing) (s : Bench) (a r next seen : ℕ) (g : GlobalData) (ali
   unfolding effect closes_as closing_at
   closes =
       record {
-        closing = closed.1 ∙ sym (last_close c _ (close_some _ _ _ _ _));
+        closing = ap Some closed.1 ∙ sym (last_close c _ refl);
         decides =
             λ d.
             rw (← closed.0) (sym (select_on (has_decided after) (with_process s a after) (opens_round s a after) d));

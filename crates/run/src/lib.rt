@@ -3,27 +3,60 @@
 #![tactic(auto)]
 
 ghost use Rattle.std.specs.Prelude.{◌≡◌, ◌-◌, ◌<◌, ◌≤◌};
+ghost use Rattle.refusal.specs.Numbers.{refused};
 ghost use Rattle.bench.specs.declared.Cause.TheVariants.{Refused as RefusedRun};
 ghost use Rattle.bench.specs.Refuse.{number_of};
-ghost use Rattle.bench.specs.Calls.{refused, run_of};
+ghost use Rattle.bench.specs.Calls.{run_of};
 ghost use Rattle.bench.specs.RunLoop.{ended_of};
 
-use bench::{Bench, Cause, Decoded, Ended, Event, Message, Refusal};
+use bench::{Bench, Cause, Ended, Event, Message};
 use checks::{close_check, crash_check, message_check, start_check, suspect_check};
 use global_data::fill_words;
 use process::Closing;
 use records::decode;
+use refusal::Refusal;
 use sets::set_within;
 use soundness::parts_sound;
 
+// The refusal with a number.
+fn refused(number: u8) -> Refusal
+    ensures { result ≡ refused number }
+{
+    match number {
+        0 => Refusal::Size,
+        1 => Refusal::Size,
+        2 => Refusal::Damaged,
+        3 => Refusal::Length,
+        4 => Refusal::Kind,
+        5 => Refusal::Field,
+        6 => Refusal::Crashed,
+        7 => Refusal::NotDue,
+        8 => Refusal::Waiting,
+        9 => Refusal::CrashLimit,
+        10 => Refusal::Slice,
+        11 => Refusal::Undecided,
+        12 => Refusal::Absent,
+        13 => Refusal::Calendar,
+        14 => Refusal::NoSite,
+        15 => Refusal::Diet,
+        _ => Refusal::LargeValue,
+    }
+}
+
 // A run that ends with a refusal.
-fn turned_away(s: Bench, accepted: u32, number: u8, closing: Closing, taken: usize) -> Ended
+fn turned_away(s: Bench, accepted: u32, number: u8, closing: Option<Closing>, taken: usize) -> Ended
     ensures { result ≡ ended_of s accepted (RefusedRun (refused number)) closing taken }
+{
+    ends_with(s, accepted, refused(number), closing, taken)
+}
+
+fn ends_with(s: Bench, accepted: u32, refusal: Refusal, closing: Option<Closing>, taken: usize) -> Ended
+    ensures { result ≡ ended_of s accepted (RefusedRun refusal) closing taken }
 {
     Ended {
         bench: s,
         accepted,
-        cause: Cause::Refused(Refusal { number }),
+        cause: Cause::Refused(refusal),
         closing,
         taken,
     }
@@ -56,7 +89,7 @@ pub fn run_bytes(bench: Bench, schedule: &[u8], budget: u32) -> Ended
     let processes = s.processes;
     let words = s.in_transit;
     if !parts_sound(s.n, s.t, s.crashed, processes, words) {
-        return turned_away(s, 0, 2, Closing::None, 0);
+        return turned_away(s, 0, 2, None, 0);
     }
     let mut rows = true;
     let mut k: usize = 0;
@@ -66,12 +99,12 @@ pub fn run_bytes(bench: Bench, schedule: &[u8], budget: u32) -> Ended
         k += 1;
     }
     if !rows {
-        return turned_away(s, 0, 2, Closing::None, 0);
+        return turned_away(s, 0, 2, None, 0);
     }
     let mut at: usize = 0;
     let mut accepted: u32 = 0;
     // how the last round ended that was closed
-    let mut closing = Closing::None;
+    let mut closing: Option<Closing> = None;
     while at < schedule.len() {
         if accepted == budget {
             return Ended {
@@ -94,10 +127,10 @@ pub fn run_bytes(bench: Bench, schedule: &[u8], budget: u32) -> Ended
         let t = s.t as usize;
         let crashed = s.crashed;
         match decode(s.n, s.t, &schedule[from..at]) {
-            Decoded::Refused(r) => {
-                return turned_away(s, before, r.number, closing, from);
+            Err(r) => {
+                return ends_with(s, before, r, closing, from);
             }
-            Decoded::Got(e) => match e {
+            Ok(e) => match e {
                 Event::Start {
                     process: a,
                     value: v,
@@ -185,7 +218,7 @@ pub fn run_bytes(bench: Bench, schedule: &[u8], budget: u32) -> Ended
                     // read only once they are in memory
                     q.estimate = g;
                     q.estimate.present = marks;
-                    closing = c.closing;
+                    closing = Some(c.closing);
                     s.processes[a] = q;
                     if q.has_decided() {
                         continue;

@@ -19,8 +19,8 @@ use Rattle.process.specs.Fields.{with_estimate}
 use Rattle.process.specs.Steps.{no_process}
 use Rattle.bench.specs.declared.Event.{Event}
 use Rattle.bench.specs.declared.Event.TheVariants.{Arrive}
-use Rattle.bench.specs.declared.Decoded.{Decoded}
-use Rattle.bench.specs.declared.Decoded.TheVariants.{Got}
+use Rattle.std.specs.Prelude.{Result, Ok}
+use Rattle.refusal.specs.declared.Refusal.{Refusal}
 use Rattle.bench.specs.State.{process_at, transit_at, with_process}
 use Rattle.bench.specs.Sound.{sound_data, sound_of}
 use Rattle.bench.specs.EveryInLaws.{tested_none, tested_more, tested_all}
@@ -38,12 +38,12 @@ use Rattle.run.specs.Turns.{refuses_suspect, effect_start, effect_crash, effect_
 use Rattle.run.specs.Turns.{effect_receive, effect_adopt, row_at, marked, opened_marked, Closes}
 use Rattle.run.specs.Turns.{closes}
 use Rattle.run.specs.Turns.{kept_start, kept_send, kept_arrive, kept_crash, kept_suspect}
-use Rattle.run.proofs.run_bytes.Goals.{After-decode, After-finish-c, After-loop-k, After-message, After-message_check-k-in-Arrive, After-number, After-round_index-opened, After-round_index-r, After-round_index-r-in-Close, Else-k-ne0-4, Else-not-parts_sound, In-Arrive, In-Close, In-Crash, In-Got, In-Send, In-Start, In-Suspect, In-loop-left}
+use Rattle.run.proofs.run_bytes.Goals.{After-decode, After-finish-c, After-loop-k, After-message, After-message_check-k-in-Arrive, After-number, After-round_index-opened, After-round_index-r, After-round_index-r-in-Close, Else-k-ne0-4, Else-not-parts_sound, In-Arrive, In-Close, In-Crash, In-Ok, In-Send, In-Start, In-Suspect, In-loop-left}
 use Rattle.run.proofs.run_bytes.Goals.{then-left-eq1+then-alike, then-left-eq1+else-alike, else-left-eq1}
 use Rattle.run.proofs.run_bytes.Goals as goal
 
 -- ---- a turn, once its record is decoded to d
-abbrev TurnAt : After-decode → Decoded → Type 0
+abbrev TurnAt : After-decode → Result Event Refusal → Type 0
 TurnAt c d =
     let m = c.loop-at in
     Turn c.args.budget c.args.schedule.now c.args.bench m.s m.at m.accepted m.closing d
@@ -58,15 +58,15 @@ turn c =
     }
 
 -- to the event e
-event : (c : In-Got) (e : Event)
-    → c.in-Got.e ≡ e → TurnAt (goal.at.In-Got c).After-decode (Got e)
-event c e p = rw (c.in-Got.is, p) at (turn (goal.at.In-Got c).After-decode)
+event : (c : In-Ok) (e : Event)
+    → c.in-Ok.e ≡ e → TurnAt (goal.at.In-Ok c).After-decode (Ok e)
+event c e p = rw (c.in-Ok.is, p) at (turn (goal.at.In-Ok c).After-decode)
 
 -- ---- indices in each arm: what its event names is low, and so is where the code looks
 low-start : (c : In-Start)
     → c.in-Start.a < 16
 unfolding Low
-low-start c = turn_low (event (goal.at.In-Start c).In-Got _ c.in-Start.is) _ refl
+low-start c = turn_low (event (goal.at.In-Start c).In-Ok _ c.in-Start.is) _ refl
 
 -- a's row of the round that it opens
 start-slot : (c : After-round_index-r)
@@ -77,7 +77,7 @@ start-slot c =
 low-send : (c : In-Send)
     → (c.in-Send.a < 16) × (c.in-Send.b < 16)
 unfolding Low
-low-send c = turn_low (event (goal.at.In-Send c).In-Got _ c.in-Send.is) _ refl
+low-send c = turn_low (event (goal.at.In-Send c).In-Ok _ c.in-Send.is) _ refl
 
 -- message r of a is at a * 17 + r
 send-index : (c : After-message)
@@ -91,7 +91,7 @@ low-arrive : (c : In-Arrive)
     → (c.in-Arrive.a < 16) × (c.in-Arrive.b < 16) × MessageIn 15
     c.in-Arrive.m
 unfolding Low
-low-arrive c = turn_low (event (goal.at.In-Arrive c).In-Got _ c.in-Arrive.is) _ refl
+low-arrive c = turn_low (event (goal.at.In-Arrive c).In-Ok _ c.in-Arrive.is) _ refl
 
 arrive-index : (c : After-number)
     → c.in-Arrive.a * 17 + c.number.result < 272
@@ -102,7 +102,7 @@ arrive-index c =
 low-close : (c : In-Close)
     → c.in-Close.a < 16
 unfolding Low
-low-close c = turn_low (event (goal.at.In-Close c).In-Got _ c.in-Close.is) _ refl
+low-close c = turn_low (event (goal.at.In-Close c).In-Ok _ c.in-Close.is) _ refl
 
 -- the row that the pass has come to, in the round of the close
 row-slot : (c : In-loop-left) → c.loop-left.i < 256
@@ -116,12 +116,12 @@ close-slot c = slot_low _ _ (low-close (goal.at.After-round_index-opened c).In-C
 low-crash : (c : In-Crash)
     → c.in-Crash.a < 16
 unfolding Low
-low-crash c = turn_low (event (goal.at.In-Crash c).In-Got _ c.in-Crash.is) _ refl
+low-crash c = turn_low (event (goal.at.In-Crash c).In-Ok _ c.in-Crash.is) _ refl
 
 low-suspect : (c : In-Suspect)
     → (c.in-Suspect.a < 16) × (c.in-Suspect.b < 16)
 unfolding Low
-low-suspect c = turn_low (event (goal.at.In-Suspect c).In-Got _ c.in-Suspect.is) _ refl
+low-suspect c = turn_low (event (goal.at.In-Suspect c).In-Ok _ c.in-Suspect.is) _ refl
 
 -- the check of an arrival looks at that word
 number-check : (c : After-message_check-k-in-Arrive)
@@ -211,10 +211,10 @@ overflow_cast-n c = let b = sound_on _ c.loop-at.invariant.sound in omega (arith
 pub overflow_cast-t : goal.overflow_cast-t
 overflow_cast-t c = let b = sound_on _ c.loop-at.invariant.sound in omega (arith, b.few, b.limit)
 
-pub returns-in-Refused : goal.returns-in-Refused
-returns-in-Refused c =
-    c.turned_away-in-Refused.ensures ∙ (ends_unread _ _ _ _ _ _ _ _ (rw c.in-Refused.is at (turn
-    (goal.at.returns-in-Refused c).After-decode)))
+pub returns-in-Err : goal.returns-in-Err
+returns-in-Err c =
+    c.ends_with.ensures ∙ (ends_unread _ _ _ _ _ _ _ _ (rw c.in-Err.is at (turn
+    (goal.at.returns-in-Err c).After-decode)))
 
 -- ---- start
 pub start-q-requires : goal.start-q-requires
@@ -229,7 +229,7 @@ round_index-r-requires c =
 pub loop-at-preserved-in-Start : goal.loop-at-preserved-in-Start
 unfolding process_at
 loop-at-preserved-in-Start c =
-    goes _ _ _ _ _ _ _ _ (event (goal.at.loop-at-preserved-in-Start c).In-Got _
+    goes _ _ _ _ _ _ _ _ (event (goal.at.loop-at-preserved-in-Start c).In-Ok _
     c.in-Start.is) _
     (c.start_check-k.ensures ∙ sym (refuses_start _ _ _))
     c.if-k-ne0.false _
@@ -240,7 +240,7 @@ loop-at-preserved-in-Start c =
 pub loop-at-preserved-in-Send : goal.loop-at-preserved-in-Send
 unfolding process_at transit_at
 loop-at-preserved-in-Send c =
-    goes _ _ _ _ _ _ _ _ (event (goal.at.loop-at-preserved-in-Send c).In-Got _
+    goes _ _ _ _ _ _ _ _ (event (goal.at.loop-at-preserved-in-Send c).In-Ok _
     c.in-Send.is) _
     (c.message_check-k.ensures ∙ sym (refuses_send _ _ _))
     c.if-k-ne0-2.false _
@@ -259,7 +259,7 @@ pub loop-at-preserved-in-Estimate : goal.loop-at-preserved-in-Estimate
 unfolding process_at transit_at
 loop-at-preserved-in-Estimate c =
     goes _ _ _ _ _ _ _ _ (event
-    (goal.at.loop-at-preserved-in-Estimate c).In-Got _
+    (goal.at.loop-at-preserved-in-Estimate c).In-Ok _
     c.in-Arrive.is) _
     (number-check (goal.at.loop-at-preserved-in-Estimate c).After-message_check-k-in-Arrive)
     c.if-k-ne0-3.false _
@@ -278,7 +278,7 @@ pub loop-at-preserved-in-Decision : goal.loop-at-preserved-in-Decision
 unfolding process_at transit_at
 loop-at-preserved-in-Decision c =
     goes _ _ _ _ _ _ _ _ (event
-    (goal.at.loop-at-preserved-in-Decision c).In-Got _
+    (goal.at.loop-at-preserved-in-Decision c).In-Ok _
     c.in-Arrive.is)
     _
     (number-check (goal.at.loop-at-preserved-in-Decision c).After-message_check-k-in-Arrive)
@@ -367,7 +367,7 @@ pub loop-at-preserved-then-has_decided : goal.loop-at-preserved-then-has_decided
 unfolding with_process process_at
 loop-at-preserved-then-has_decided c =
     let d = closed (goal.at.loop-at-preserved-then-has_decided c).After-finish-c in
-    goes _ _ _ _ _ _ _ _ (event (goal.at.loop-at-preserved-then-has_decided c).In-Got _ c.in-Close.is) _
+    goes _ _ _ _ _ _ _ _ (event (goal.at.loop-at-preserved-then-has_decided c).In-Ok _ c.in-Close.is) _
     (c.close_check-k.ensures ∙ sym (refuses_close _ _)) c.if-k-ne0-4.false _
     (d.decides (sym c.has_decided.ensures ∙ c.if-has_decided.true)) _ d.closing
 
@@ -383,7 +383,7 @@ unfolding process_at
 loop-at-preserved-in-Close c =
     let l = c.loop-left in
     let d = closed (goal.at.loop-at-preserved-in-Close c).After-finish-c in
-    goes _ _ _ _ _ _ _ _ (event (goal.at.loop-at-preserved-in-Close c).In-Got _ c.in-Close.is) _
+    goes _ _ _ _ _ _ _ _ (event (goal.at.loop-at-preserved-in-Close c).In-Ok _ c.in-Close.is) _
     (c.close_check-k.ensures ∙ sym (refuses_close _ _)) c.if-k-ne0-4.false _
     (opened_marked c.loop-at.s c.in-Close.a c.round_index-opened.result l.marks l.g c.finish-c.result.process
     ∙ d.opens (sym c.has_decided.ensures ∙ c.if-has_decided.false) _ c.round_index-opened.ensures.0) _ d.closing
@@ -391,7 +391,7 @@ loop-at-preserved-in-Close c =
 -- ---- crash
 pub loop-at-preserved-in-Crash : goal.loop-at-preserved-in-Crash
 loop-at-preserved-in-Crash c =
-    goes _ _ _ _ _ _ _ _ (event (goal.at.loop-at-preserved-in-Crash c).In-Got _
+    goes _ _ _ _ _ _ _ _ (event (goal.at.loop-at-preserved-in-Crash c).In-Ok _
     c.in-Crash.is) _
     (c.crash_check-k.ensures ∙ sym (refuses_crash _ _)) c.if-k-ne0-5.false _
     (effect_crash _ _ _ c.insert-in-Crash.ensures)
@@ -401,7 +401,7 @@ loop-at-preserved-in-Crash c =
 pub loop-at-preserved : goal.loop-at-preserved
 unfolding with_process process_at
 loop-at-preserved c =
-    goes _ _ _ _ _ _ _ _ (event (goal.at.loop-at-preserved c).In-Got _
+    goes _ _ _ _ _ _ _ _ (event (goal.at.loop-at-preserved c).In-Ok _
     c.in-Suspect.is) _
     (c.suspect_check-k.ensures ∙ sym (refuses_suspect _ _ _)) c.if-k-ne0-6.false _
     (effect_suspect _ _ _ _ c.suspect.ensures)
@@ -430,7 +430,7 @@ start_check-k-requires c = low-start (goal.at.start_check-k-requires c).In-Start
 
 pub returns-then-k-ne0 : goal.returns-then-k-ne0
 unfolding process_at
-returns-then-k-ne0 c = c.turned_away-then-k-ne0.ensures ∙ ends_by_lem _ _ _ _ _ _ _ _ (event (goal.at.returns-then-k-ne0 c).In-Got _ c.in-Start.is) _
+returns-then-k-ne0 c = c.turned_away-then-k-ne0.ensures ∙ ends_by_lem _ _ _ _ _ _ _ _ (event (goal.at.returns-then-k-ne0 c).In-Ok _ c.in-Start.is) _
     (c.start_check-k.ensures ∙ sym (refuses_start _ _ _)) c.if-k-ne0.true
 
 pub offset_bounds-s-a-in-Start : goal.offset_bounds-s-a-in-Start
@@ -476,7 +476,7 @@ message_check-k-requires c = low-send (goal.at.message_check-k-requires c).In-Se
 
 pub returns-then-k-ne0-2 : goal.returns-then-k-ne0-2
 unfolding process_at
-returns-then-k-ne0-2 c = c.turned_away-then-k-ne0-2.ensures ∙ ends_by_lem _ _ _ _ _ _ _ _ (event (goal.at.returns-then-k-ne0-2 c).In-Got _ c.in-Send.is) _
+returns-then-k-ne0-2 c = c.turned_away-then-k-ne0-2.ensures ∙ ends_by_lem _ _ _ _ _ _ _ _ (event (goal.at.returns-then-k-ne0-2 c).In-Ok _ c.in-Send.is) _
     (c.message_check-k.ensures ∙ sym (refuses_send _ _ _)) c.if-k-ne0-2.true
 
 pub overflow_mul-i : goal.overflow_mul-i
@@ -546,7 +546,7 @@ message_check-k-requires-in-Arrive c = let h = low-arrive (goal.at.message_check
 
 pub returns-then-k-ne0-3 : goal.returns-then-k-ne0-3
 unfolding process_at
-returns-then-k-ne0-3 c = c.turned_away-then-k-ne0-3.ensures ∙ ends_by_lem _ _ _ _ _ _ _ _ (event (goal.at.returns-then-k-ne0-3 c).In-Got _ c.in-Arrive.is) _
+returns-then-k-ne0-3 c = c.turned_away-then-k-ne0-3.ensures ∙ ends_by_lem _ _ _ _ _ _ _ _ (event (goal.at.returns-then-k-ne0-3 c).In-Ok _ c.in-Arrive.is) _
     (number-check (goal.at.returns-then-k-ne0-3 c).After-message_check-k-in-Arrive) c.if-k-ne0-3.true
 
 pub remove-requires : goal.remove-requires
@@ -616,7 +616,7 @@ bounds-s-a-in-Close c = low-close c
 
 pub returns-then-k-ne0-4 : goal.returns-then-k-ne0-4
 unfolding process_at
-returns-then-k-ne0-4 c = c.turned_away-then-k-ne0-4.ensures ∙ ends_by_lem _ _ _ _ _ _ _ _ (event (goal.at.returns-then-k-ne0-4 c).In-Got _ c.in-Close.is) _
+returns-then-k-ne0-4 c = c.turned_away-then-k-ne0-4.ensures ∙ ends_by_lem _ _ _ _ _ _ _ _ (event (goal.at.returns-then-k-ne0-4 c).In-Ok _ c.in-Close.is) _
     (c.close_check-k.ensures ∙ sym (refuses_close _ _)) c.if-k-ne0-4.true
 
 pub round_index-r-requires-in-Close : goal.round_index-r-requires-in-Close
@@ -701,7 +701,7 @@ crash_check-k-requires c = low-crash c
 
 pub returns-then-k-ne0-5 : goal.returns-then-k-ne0-5
 unfolding process_at
-returns-then-k-ne0-5 c = c.turned_away-then-k-ne0-5.ensures ∙ ends_by_lem _ _ _ _ _ _ _ _ (event (goal.at.returns-then-k-ne0-5 c).In-Got _ c.in-Crash.is) _
+returns-then-k-ne0-5 c = c.turned_away-then-k-ne0-5.ensures ∙ ends_by_lem _ _ _ _ _ _ _ _ (event (goal.at.returns-then-k-ne0-5 c).In-Ok _ c.in-Crash.is) _
     (c.crash_check-k.ensures ∙ sym (refuses_crash _ _)) c.if-k-ne0-5.true
 
 pub insert-requires-in-Crash : goal.insert-requires-in-Crash
@@ -726,7 +726,7 @@ suspect_check-k-requires c = low-suspect (goal.at.suspect_check-k-requires c).In
 
 pub returns-then-k-ne0-6 : goal.returns-then-k-ne0-6
 unfolding process_at
-returns-then-k-ne0-6 c = c.turned_away-then-k-ne0-6.ensures ∙ ends_by_lem _ _ _ _ _ _ _ _ (event (goal.at.returns-then-k-ne0-6 c).In-Got _ c.in-Suspect.is) _
+returns-then-k-ne0-6 c = c.turned_away-then-k-ne0-6.ensures ∙ ends_by_lem _ _ _ _ _ _ _ _ (event (goal.at.returns-then-k-ne0-6 c).In-Ok _ c.in-Suspect.is) _
     (c.suspect_check-k.ensures ∙ sym (refuses_suspect _ _ _)) c.if-k-ne0-6.true
 
 pub suspect-requires : goal.suspect-requires

@@ -1,8 +1,12 @@
--- What is made is what the definition makes.
-use mathlib.Core.Path.{refl}
+-- By the refusal with that number.
+use mathlib.Core.Path.{ap, ◌∙◌}
+use Rattle.refusal.specs.declared.Refusal.{Refusal}
+use Rattle.bench.specs.declared.Cause.TheVariants.{Refused}
 use Rattle.bench.specs.RunLoop.{ended_of}
 use Rattle.run.proofs.turned_away.Goals as goal
 
 pub returns : goal.returns
-unfolding ended_of
-returns c = refl
+returns c =
+    let e = c.args in
+    c.ends_with.ensures
+    ∙ ap (λ (r : Refusal). ended_of e.s e.accepted (Refused r) e.closing e.taken) c.refused.ensures

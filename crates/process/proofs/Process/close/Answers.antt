@@ -1,7 +1,6 @@
 -- `Process::close` is the step: one pass over the peers' rows fills and compares, and `finish` does the rest. The
 -- loop's invariant is that of the pass, `Passing`: the processes below y are seen.
 use mathlib.Core.Path.{◌≡◌, sym, ◌∙◌}
-use mathlib.Core.Logic.{⊎_elim}
 use mir.Syntax.{w64}
 use Prim.Native.Nat.{◌<◌}
 use native.Mathlib.Omega.{arith}

@@ -6,10 +6,11 @@ ghost use Rattle.sets.specs.Truth.{less, select};
 ghost use Rattle.bench.specs.Calls.{answer_of};
 ghost use Rattle.bench.specs.Carry.{plain_data, plain_bench, carry_refusal, carry_of};
 
-use bench::{Answer, Bench, Carried, Refusal};
+use bench::{Bench, Carried};
 use global_data::GlobalData;
+use refusal::Refusal;
 use sets::member;
-use soundness::{all_pass, is_sound};
+use soundness::{all_pass, ensure_sound};
 
 // Whether a word has no high half; under an absent entry it does not count. No branch, so that the loop over the
 // words has none.
@@ -38,16 +39,15 @@ fn is_plain(b: &Bench) -> bool
 }
 
 // The first check that fails is the answer.
-fn answer(b: &Bench) -> Answer
+fn checked(b: &Bench) -> Result<(), Refusal>
     ensures { result ≡ answer_of (carry_refusal b.now) }
 {
-    if !is_sound(b) {
-        return Answer::Refused(Refusal { number: 2 });
+    ensure_sound(b)?;
+    if is_plain(b) {
+        Ok(())
+    } else {
+        Err(Refusal::LargeValue)
     }
-    if !is_plain(b) {
-        return Answer::Refused(Refusal { number: 16 });
-    }
-    Answer::Accepted
 }
 
 // The words of a bench that is not refused are its words in the new form.
@@ -55,7 +55,7 @@ pub fn carry(b: Bench) -> Carried
     ensures { result ≡ carry_of b }
 {
     Carried {
-        answer: answer(&b),
+        answer: checked(&b),
         bench: b,
     }
 }

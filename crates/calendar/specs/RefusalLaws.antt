@@ -1,8 +1,7 @@
 -- The answer by its checks, one after the other.
 use Rattle.std.specs.Prelude.{◌≡◌, true, false, List, ℕ, Ok, Err}
-use Rattle.std.proofs.Common.{◌∙◌, sym, arith}
-use Rattle.sets.specs.Truth.{◌and◌}
-use Rattle.sets.specs.TruthLaws.{Is, is, on, off, and_on_l, select_on, select_off, check_on, check_off, same_mk, same_off}
+use Rattle.std.proofs.Common.{◌∙◌, arith}
+use Rattle.sets.specs.TruthLaws.{select_on, select_off, check_on, check_off, same_mk, same_off}
 use Rattle.refusal.specs.Numbers.{refused}
 use Rattle.refusal.specs.declared.Refusal.TheVariants.{Calendar, NoSite}
 use Rattle.calendar.specs.Calendar.{takes_part_in, numbering_of, whole_records, all_well_formed, somebody_in}
@@ -21,13 +20,6 @@ module _ (calendar : List ℕ) (week : ℕ) where
   pub record_13 : whole_records calendar ≡ true → all_well_formed calendar ≡ false → week_of calendar week ≡ Err Calendar
   unfolding week_refusal
   record_13 w f = refused_as 13 (check_on _ _ _ w ∙ check_off _ _ _ f) (λ e. omega arith)
-
-  pub at_fault : (whole_records calendar and all_well_formed calendar) ≡ false → week_of calendar week ≡ Err Calendar
-  at_fault e = go (is (whole_records calendar))
-    where
-      go : Is (whole_records calendar) → week_of calendar week ≡ Err Calendar
-      go (off w) = partial_13 w
-      go (on w) = record_13 w (sym (and_on_l _ _ w) ∙ e)
 
   pub nobody_14 : whole_records calendar ≡ true → all_well_formed calendar ≡ true → somebody_in calendar week ≡ false
       → week_of calendar week ≡ Err NoSite

@@ -1,13 +1,14 @@
 // Refusal 2: whether a bench is damaged.
 #![tactic(auto)]
 
-ghost use Rattle.std.specs.Prelude.{◌≡◌, ◌≤◌, Bool};
+ghost use Rattle.std.specs.Prelude.{◌≡◌, ◌≤◌, Bool, true, false, MatchResult};
 ghost use Rattle.std.specs.Fn.{FnReturnsAt};
 ghost use Rattle.sets.specs.Lists.{every_in};
 ghost use Rattle.bench.specs.Sound.{sound_process, sound_of};
 
 use bench::{Bench, sizes_open};
 use process::Process;
+use refusal::Refusal;
 use sets::set_within;
 
 // Whether every element passes the test. Each is tested, also after one has failed, so that the loop has no branch:
@@ -51,4 +52,16 @@ pub fn is_sound(b: &Bench) -> bool
         & all_pass(&b.processes, |p| process_sound(n, t, p))
         & all_pass(&b.sent, |g| set_within(n, g.present))
         & all_pass(&b.in_transit, |m| set_within(n, *m))
+}
+
+// The check of a call that turns a damaged bench away.
+pub fn ensure_sound(b: &Bench) -> Result<(), Refusal>
+    ensures { MatchResult result (λ _. sound_of b.now ≡ true)
+        (λ e. (e ≡ Refusal.Damaged) × (sound_of b.now ≡ false)) }
+{
+    if is_sound(b) {
+        Ok(())
+    } else {
+        Err(Refusal::Damaged)
+    }
 }

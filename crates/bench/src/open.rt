@@ -36,8 +36,8 @@ impl Bench {
         let p = Process::idle();
         let g = GlobalData::nothing();
         Bench {
-            n: n,
-            t: t,
+            n,
+            t,
             crashed: sets::empty(),
             processes: [p; Bench::PROCESSES],
             sent: [g; Bench::ROWS],

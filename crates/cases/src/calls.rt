@@ -1,12 +1,14 @@
 // The calls that a line can name, with their numbers. Each writes its answer, 0 or the refusal, and what it gives.
 use crate::line::{Line, rest};
 use aggregates::{ChangeAnswer, GoAnswer, LeadAnswer, TotalAnswer, change, go, lead, total};
-use bench::{Answer, Bench, Cause, Listed, Shown};
+use bench::{Bench, Cause};
 use calendar::{Numbering, week};
 use carry::carry;
 use decision::global_data;
+use global_data::GlobalData;
 use one_record::step_bytes;
 use process::{Closing, Process};
+use refusal::Refusal;
 use run::run_bytes;
 use std::io;
 use transit::in_transit;
@@ -19,27 +21,49 @@ fn say(rt: HostRuntime, number: u32) -> io::Result<()> {
     say_long(rt, number as u64)
 }
 
-fn say_answer(rt: HostRuntime, a: Answer) -> io::Result<()> {
+fn say_refusal(rt: HostRuntime, r: Refusal) -> io::Result<()> {
+    say(rt, r.number() as u32)
+}
+
+fn say_answer(rt: HostRuntime, a: Result<(), Refusal>) -> io::Result<()> {
     match a {
-        Answer::Accepted => say(rt, 0),
-        Answer::Refused(r) => say(rt, r.number as u32),
+        Ok(()) => say(rt, 0),
+        Err(r) => say_refusal(rt, r),
     }
 }
 
-fn say_closing(rt: HostRuntime, c: Closing) -> io::Result<()> {
+fn say_closing(rt: HostRuntime, c: Option<Closing>) -> io::Result<()> {
     match c {
-        Closing::None => print!(rt; " -"),
-        Closing::NextRound => print!(rt; " next"),
-        Closing::Agreed => print!(rt; " agreed"),
-        Closing::LastRound => print!(rt; " last"),
+        None => print!(rt; " -"),
+        Some(Closing::NextRound) => print!(rt; " next"),
+        Some(Closing::Agreed) => print!(rt; " agreed"),
+        Some(Closing::LastRound) => print!(rt; " last"),
+    }
+}
+
+// No bench is open: every byte is 0, and each call finds that damaged.
+pub fn closed() -> Bench {
+    Bench {
+        n: 0,
+        t: 0,
+        crashed: 0,
+        processes: [Process::idle(); 16],
+        sent: [GlobalData::nothing(); 256],
+        in_transit: [0; 272],
     }
 }
 
 fn open(rt: HostRuntime, n: u8, t: u8) -> io::Result<Bench> {
-    let o = Bench::open(n, t);
-    let a = o.answer;
-    say_answer(rt, a)?;
-    Ok(o.bench)
+    match Bench::open(n, t) {
+        Ok(b) => {
+            say(rt, 0)?;
+            Ok(b)
+        }
+        Err(r) => {
+            say_refusal(rt, r)?;
+            Ok(closed())
+        }
+    }
 }
 
 fn say_run(rt: HostRuntime, accepted: u32, cause: Cause) -> io::Result<()> {
@@ -47,7 +71,7 @@ fn say_run(rt: HostRuntime, accepted: u32, cause: Cause) -> io::Result<()> {
     match cause {
         Cause::Empty => print!(rt; " empty"),
         Cause::Spent => print!(rt; " spent"),
-        Cause::Refused(r) => say(rt, r.number as u32),
+        Cause::Refused(r) => say_refusal(rt, r),
     }
 }
 
@@ -91,13 +115,13 @@ fn process(rt: HostRuntime, b: Bench, number: u8) -> io::Result<()> {
     say_process(rt, b.processes[at], b.crashed)
 }
 
-fn say_shown(rt: HostRuntime, s: Shown, words: [u32; 16]) -> io::Result<()> {
+fn say_shown(rt: HostRuntime, s: Result<u16, Refusal>, words: [u32; 16]) -> io::Result<()> {
     match s {
-        Shown::Marks(m) => {
+        Ok(m) => {
             say(rt, 0)?;
             say(rt, m as u32)?;
         }
-        Shown::Refused(r) => say(rt, r.number as u32)?,
+        Err(r) => say_refusal(rt, r)?,
     }
     say(rt, words[0])?;
     say(rt, words[1])?;
@@ -118,8 +142,8 @@ fn data(rt: HostRuntime, b: Bench, process: u8, words: usize) -> io::Result<()> 
 fn list(rt: HostRuntime, b: Bench) -> io::Result<()> {
     let mut bytes = [0u8; 3];
     match in_transit(b, &mut bytes) {
-        Listed::Count(_) => say(rt, 0),
-        Listed::Refused(r) => say(rt, r.number as u32),
+        Ok(_) => say(rt, 0),
+        Err(r) => say_refusal(rt, r),
     }
 }
 

@@ -5,9 +5,8 @@
 mod calls;
 mod line;
 
-use crate::calls::answer;
+use crate::calls::{answer, closed};
 use crate::line::{Line, fed};
-use bench::Bench;
 use reading::read_full;
 use std::io;
 use std::io::Write;
@@ -20,8 +19,7 @@ fn lines(rt: HostRuntime, text: &[u8]) -> io::Result<()> {
         count: 0,
         inside: false,
     };
-    let opened = Bench::open(0, 0);
-    let mut b = opened.bench;
+    let mut b = closed();
     let mut line = none;
     let mut i: usize = 0;
     while i < text.len() {

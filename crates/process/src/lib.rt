@@ -57,6 +57,7 @@ pub struct Closed {
 
 impl Closing {
     // The next round is open: the close has not decided.
+    #[tactic(auto, unfolding(crate::specs::Steps::opens_next, crate::specs::Steps::closing_number, sets::specs::Truth::same))]
     fn opens_next(self) -> bool
         ensures { result ≡ opens_next self }
     {

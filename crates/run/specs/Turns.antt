@@ -23,7 +23,7 @@ use Rattle.process.specs.Steps.{has_decided, open_round_of, start_of, next_of, f
 use Rattle.process.specs.Steps.{decides_of, advance_of, close_of, message_of, send_of, suspect_of, receive_of, adopt_of}
 use Rattle.refusal.specs.declared.Refusal.{Refusal}
 use Rattle.refusal.specs.Numbers.{refused, refusal_number}
-use Rattle.refusal.specs.NumberLaws.{refused_number}
+use Rattle.refusal.proofs.NumberLaws.{refused_number}
 use Rattle.bench.specs.declared.Bench.{Bench}
 use Rattle.bench.specs.declared.Message.{Message}
 use Rattle.bench.specs.declared.Message.TheVariants.{Estimate, Decision}

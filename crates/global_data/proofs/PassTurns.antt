@@ -1,17 +1,16 @@
 -- One pass over the rows of the members of a set, the lowest first, turn by turn: the next member is filled in and
 -- compared, by the definitions. What has been made and what is left give together what the definitions say of all.
-use Rattle.std.specs.Prelude.{◌≡◌, refl, ◌⊎◌, Bool, true, false, List, [], ◌∷◌, ℕ, zero, suc, ◌+◌, ◌-◌, ◌≤◌, ◌<◌, length}
+use Rattle.std.specs.Prelude.{◌≡◌, refl, ◌⊎◌, Bool, true, false, List, ℕ, zero, suc, ◌+◌, ◌-◌, ◌<◌}
 use Rattle.std.proofs.Common.{sym, ap, ◌∙◌, inl, inr, arith}
 use Rattle.sets.specs.Laws.{has_empty, has_remove}
-use Rattle.sets.specs.LowestLaws.{lowest_least}
-use Rattle.sets.specs.MembersLaws.{Left, Turn, left_none}
-use Rattle.sets.specs.Set.{has, remove_of, lowest_of}
-use Rattle.sets.specs.Truth.{◌and◌, same}
+use Rattle.sets.specs.MembersLaws.{Turn}
+use Rattle.sets.specs.Set.{has, remove_of}
+use Rattle.sets.specs.Truth.{◌and◌}
 use Rattle.sets.specs.TruthLaws.{Is, on, off, is, by_both, clash, and_first, and_second, and_mk, and_on_r, and_off_r}
 use Rattle.sets.specs.TruthLaws.{same_refl, same_off, eq-or}
 use Rattle.global_data.specs.declared.GlobalData.{GlobalData}
 use Rattle.global_data.specs.GlobalData.{fill_of, fill_from, same_to, all_same}
-use Rattle.global_data.proofs.Laws.{fill_from_on, fill_from_off, fill_length, all_same_on, all_same_mk}
+use Rattle.global_data.proofs.Laws.{fill_from_on, fill_from_off, all_same_on, all_same_mk}
 
 -- where no member is below p, nothing is filled in below p
 fill_low : (m : ℕ) (rows : ℕ → GlobalData) (g : GlobalData) (p : ℕ) → ((i : ℕ) → i < p → has m i ≡ false)
@@ -87,8 +86,8 @@ module _ (n all : ℕ) (rows : ℕ → GlobalData) (old : GlobalData) where
       record {
         fills = rw ef (sym (fill_first m k rows t.member g t.least (15 - k) 16 (omega (arith, t.low))) ∙ w.fills);
         compares =
-          rw es (swap (same_to n (rows k) old) ok (all_same 16 n (remove_of m k) rows old))
-          ∙ ap (λ (b : Bool). ok and b) (sym (same_first m k rows t.member n old t.low)) ∙ w.compares;
+            rw es (swap (same_to n (rows k) old) ok (all_same 16 n (remove_of m k) rows old))
+            ∙ ap (λ (b : Bool). ok and b) (sym (same_first m k rows t.member n old t.low)) ∙ w.compares;
       }
     where
       swap : (a b c : Bool) → ((a and b) and c) ≡ (b and (a and c))
@@ -99,6 +98,7 @@ module _ (n all : ℕ) (rows : ℕ → GlobalData) (old : GlobalData) where
   -- g keeps its sixteen words
   pub pass_done : {m : ℕ} {g : GlobalData} {ok : Bool} → m ≡ 0 → Passing n all rows old m g ok
       → (g ≡ fill_from 16 all rows old) × (ok ≡ all_same 16 n all rows old)
-  pass_done {m} {g} {ok} z w =
-      (sym (fill_low m rows g 16 (λ i l. rw z (has_empty i))) ∙ w.fills,
-      sym (and_on_r ok _ (all_same_mk 16 n m rows old (λ q b s. clash (has m q) s (rw z (has_empty q))))) ∙ w.compares)
+  pass_done {m} {g} {ok} z w = (
+    sym (fill_low m rows g 16 (λ i l. rw z (has_empty i))) ∙ w.fills,
+    sym (and_on_r ok _ (all_same_mk 16 n m rows old (λ q b s. clash (has m q) s (rw z (has_empty q))))) ∙ w.compares,
+  )

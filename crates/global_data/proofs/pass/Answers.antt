@@ -1,8 +1,6 @@
 -- `pass` fills and compares: the invariant is that of the laws of a pass, `Passing`, for any rows that the calls of
 -- `row` give.
-use mathlib.Core.Path.{◌≡◌, refl, sym, ◌∙◌}
-use Prim.Native.Nat.{◌<◌}
-use native.Mathlib.Omega.{arith}
+use mathlib.Core.Path.{sym, ◌∙◌}
 use borrow.Author.Rules.{rules}
 use Rattle.sets.specs.MembersLaws.{Turn, left_turn, left_none}
 use Rattle.sets.specs.TruthLaws.{and_on_r, and_off_r}
@@ -28,10 +26,10 @@ loop-y-preserved-then-alike g c =
       t.others,
       c.type_inv.values,
       λ rows h.
-      let e = h _ _ t.low c.row-given.ensures in
-      pass_turn c.args.n c.args.members rows c.args.old t (c.loop-y.invariant.3 rows h) _ _
-      (rw (← e) (sym c.fill_words-present.ensures))
-      (rw (← e) (c.same-alike.ensures ∙ sym (and_on_r _ _ c.if-alike.true))),
+          let e = h _ _ t.low c.row-given.ensures in
+          pass_turn c.args.n c.args.members rows c.args.old t (c.loop-y.invariant.3 rows h) _ _
+          (rw (← e) (sym c.fill_words-present.ensures))
+          (rw (← e) (c.same-alike.ensures ∙ sym (and_on_r _ _ c.if-alike.true))),
     )
 
 pub loop-y-preserved : goal.loop-y-preserved
@@ -41,10 +39,10 @@ loop-y-preserved g c =
       t.others,
       c.type_inv.values,
       λ rows h.
-      let e = h _ _ t.low c.row-given.ensures in
-      pass_turn c.args.n c.args.members rows c.args.old t (c.loop-y.invariant.3 rows h) _ c.loop-y.alike
-      (rw (← e) (sym c.fill_words-present.ensures))
-      (c.if-alike.false ∙ sym (and_off_r _ _ c.if-alike.false)),
+          let e = h _ _ t.low c.row-given.ensures in
+          pass_turn c.args.n c.args.members rows c.args.old t (c.loop-y.invariant.3 rows h) _ c.loop-y.alike
+          (rw (← e) (sym c.fill_words-present.ensures))
+          (c.if-alike.false ∙ sym (and_off_r _ _ c.if-alike.false)),
     )
 
 pub returns : goal.returns

@@ -67,7 +67,9 @@ impl Entries<'_> {
         ensures { result ≡ total_to (length self.entry.words.now) (standing_at standing.now)
             (entry_at self.entry.words.now self.entry.marks) }
     {
-        (0..self.words.len()).map(|i| counts_for(standing, i, self.entry(i)) as u64).sum()
+        (0..self.words.len())
+            .map(|i| u64::from(counts_for(standing, i, self.entry(i))))
+            .sum()
     }
 
     // Process i, from 0, where its entry is present.
@@ -84,7 +86,9 @@ impl Entries<'_> {
     fn leader(self) -> Option<Candidate>
         ensures { result ≡ leader_to (length self.entry.words.now) (entry_at self.entry.words.now self.entry.marks) }
     {
-        (0..self.words.len()).filter_map(|i| self.contender(i)).max()
+        (0..self.words.len())
+            .filter_map(|i| self.contender(i))
+            .max()
     }
 }
 
@@ -136,7 +140,7 @@ fn counts_for(standing: &[u32], i: usize, entry: Entry) -> u32
 {
     match entry {
         None => standing[i],
-        Some(v) => v.portions as u32,
+        Some(v) => u32::from(v.portions),
     }
 }
 
@@ -153,7 +157,7 @@ fn lead_by(leader: Option<Candidate>) -> Result<Leader, Refusal>
 fn difference(portions: u16, standing: u32) -> i64
     ensures { result ≡ pos portions -ℤ pos standing }
 {
-    portions as i64 - standing as i64
+    i64::from(portions) - i64::from(standing)
 }
 
 fn changed_by(standing: u32, entry: Entry) -> Result<i64, Refusal>

@@ -1,12 +1,13 @@
 // The calls that a line can name, with their numbers. Each writes its answer, 0 or the refusal, and what it gives.
 use crate::line::{Line, rest};
-use aggregates::{ChangeAnswer, GoAnswer, LeadAnswer, TotalAnswer, change, go, lead, total};
+use aggregates::{change, go, lead, total};
 use bench::{Answer, Bench, Cause, Listed, Shown};
 use calendar::week;
 use carry::carry;
 use decision::global_data;
 use one_record::step_bytes;
 use process::{Closing, Process};
+use refusal::Refusal;
 use run::run_bytes;
 use std::io;
 use transit::in_transit;
@@ -130,13 +131,13 @@ fn carrying(rt: HostRuntime, b: Bench) -> io::Result<()> {
     say_answer(rt, a)
 }
 
-fn say_total(rt: HostRuntime, a: TotalAnswer) -> io::Result<()> {
+fn say_total(rt: HostRuntime, a: Result<u64, Refusal>) -> io::Result<()> {
     match a {
-        TotalAnswer::Total(v) => {
+        Ok(v) => {
             say(rt, 0)?;
             say_long(rt, v)
         }
-        TotalAnswer::Refused(r) => say(rt, r.number as u32),
+        Err(r) => say(rt, r.number() as u32),
     }
 }
 
@@ -158,19 +159,16 @@ fn greatest(rt: HostRuntime, n: u8, marks: u16) -> io::Result<()> {
 // The change is from 4.
 fn aggregate(rt: HostRuntime, n: u8, marks: u16, process: u8, entries: &[u32]) -> io::Result<()> {
     match go(n, entries, marks) {
-        GoAnswer::Go(_) => say(rt, 0)?,
-        GoAnswer::Refused(r) => say(rt, r.number as u32)?,
+        Ok(_) => say(rt, 0)?,
+        Err(r) => say(rt, r.number() as u32)?,
     }
     match lead(n, entries, marks) {
-        LeadAnswer::Lead {
-            process: _,
-            portions: _,
-        } => say(rt, 0)?,
-        LeadAnswer::Refused(r) => say(rt, r.number as u32)?,
+        Ok(_) => say(rt, 0)?,
+        Err(r) => say(rt, r.number() as u32)?,
     }
     match change(n, entries, marks, process, 4) {
-        ChangeAnswer::Difference(_) => say(rt, 0),
-        ChangeAnswer::Refused(r) => say(rt, r.number as u32),
+        Ok(_) => say(rt, 0),
+        Err(r) => say(rt, r.number() as u32),
     }
 }
 

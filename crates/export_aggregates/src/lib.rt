@@ -19,7 +19,7 @@ fn put<T: Drop>(answer: Result<T, Refusal>, word: &mut T) -> u32
             *word = given;
             0
         }
-        Err(refusal) => refusal.number() as u32,
+        Err(refusal) => u32::from(refusal.number()),
     }
 }
 
@@ -63,7 +63,7 @@ pub extern "C" fn gerzulan_lead(
         ≡ word_in (λ c. c.portions) (lead_of n entries.now marks) value.old) }
 {
     let lead = aggregates::lead(n, entries, marks);
-    put(lead.map(|c| c.portions as u32), value);
+    put(lead.map(|c| u32::from(c.portions)), value);
     put(lead.map(|c| c.process), process)
 }
 
@@ -80,5 +80,8 @@ pub extern "C" fn gerzulan_change(
         × (difference.new
         ≡ word_in (λ z. z) (change_of n entries.now marks process standing) difference.old) }
 {
-    put(aggregates::change(n, entries, marks, process, standing), difference)
+    put(
+        aggregates::change(n, entries, marks, process, standing),
+        difference,
+    )
 }

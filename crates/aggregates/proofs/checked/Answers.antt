@@ -68,7 +68,7 @@ pub returns : goal.returns
 returns c =
     let o = goal.at.returns c in (
       by_none _ _ _ _ _ (sized o.Else-not-one_to) (marked o.Else-not-set_within) c.if-not-named.false
-      c.if-words-n.false c.if-not-stood.false (looked o.After-diets_fit ∙ c.if-not-diets_fit.false),
+          c.if-words-n.false c.if-not-stood.false (looked o.After-diets_fit ∙ c.if-not-diets_fit.false),
       refl,
       refl,
     )

@@ -1,11 +1,10 @@
 // The calls that a line can name, with their numbers. Each writes its answer, 0 or the refusal, and what it gives.
 use crate::line::{Line, rest};
-use aggregates::{ChangeAnswer, GoAnswer, LeadAnswer, TotalAnswer, change, go, lead, total};
-use bench::{Bench, Cause};
-use calendar::{Numbering, week};
+use aggregates::{change, go, lead, total};
+use bench::{Answer, Bench, Cause, Listed, Shown};
+use calendar::week;
 use carry::carry;
 use decision::global_data;
-use global_data::GlobalData;
 use one_record::step_bytes;
 use process::{Closing, Process};
 use refusal::Refusal;
@@ -21,49 +20,27 @@ fn say(rt: HostRuntime, number: u32) -> io::Result<()> {
     say_long(rt, number as u64)
 }
 
-fn say_refusal(rt: HostRuntime, r: Refusal) -> io::Result<()> {
-    say(rt, r.number() as u32)
-}
-
-fn say_answer(rt: HostRuntime, a: Result<(), Refusal>) -> io::Result<()> {
+fn say_answer(rt: HostRuntime, a: Answer) -> io::Result<()> {
     match a {
-        Ok(()) => say(rt, 0),
-        Err(r) => say_refusal(rt, r),
+        Answer::Accepted => say(rt, 0),
+        Answer::Refused(r) => say(rt, r.number as u32),
     }
 }
 
-fn say_closing(rt: HostRuntime, c: Option<Closing>) -> io::Result<()> {
+fn say_closing(rt: HostRuntime, c: Closing) -> io::Result<()> {
     match c {
-        None => print!(rt; " -"),
-        Some(Closing::NextRound) => print!(rt; " next"),
-        Some(Closing::Agreed) => print!(rt; " agreed"),
-        Some(Closing::LastRound) => print!(rt; " last"),
-    }
-}
-
-// No bench is open: every byte is 0, and each call finds that damaged.
-pub fn closed() -> Bench {
-    Bench {
-        n: 0,
-        t: 0,
-        crashed: 0,
-        processes: [Process::idle(); 16],
-        sent: [GlobalData::nothing(); 256],
-        in_transit: [0; 272],
+        Closing::None => print!(rt; " -"),
+        Closing::NextRound => print!(rt; " next"),
+        Closing::Agreed => print!(rt; " agreed"),
+        Closing::LastRound => print!(rt; " last"),
     }
 }
 
 fn open(rt: HostRuntime, n: u8, t: u8) -> io::Result<Bench> {
-    match Bench::open(n, t) {
-        Ok(b) => {
-            say(rt, 0)?;
-            Ok(b)
-        }
-        Err(r) => {
-            say_refusal(rt, r)?;
-            Ok(closed())
-        }
-    }
+    let o = Bench::open(n, t);
+    let a = o.answer;
+    say_answer(rt, a)?;
+    Ok(o.bench)
 }
 
 fn say_run(rt: HostRuntime, accepted: u32, cause: Cause) -> io::Result<()> {
@@ -71,7 +48,7 @@ fn say_run(rt: HostRuntime, accepted: u32, cause: Cause) -> io::Result<()> {
     match cause {
         Cause::Empty => print!(rt; " empty"),
         Cause::Spent => print!(rt; " spent"),
-        Cause::Refused(r) => say_refusal(rt, r),
+        Cause::Refused(r) => say(rt, r.number as u32),
     }
 }
 
@@ -115,13 +92,13 @@ fn process(rt: HostRuntime, b: Bench, number: u8) -> io::Result<()> {
     say_process(rt, b.processes[at], b.crashed)
 }
 
-fn say_shown(rt: HostRuntime, s: Result<u16, Refusal>, words: [u32; 16]) -> io::Result<()> {
+fn say_shown(rt: HostRuntime, s: Shown, words: [u32; 16]) -> io::Result<()> {
     match s {
-        Ok(m) => {
+        Shown::Marks(m) => {
             say(rt, 0)?;
             say(rt, m as u32)?;
         }
-        Err(r) => say_refusal(rt, r)?,
+        Shown::Refused(r) => say(rt, r.number as u32)?,
     }
     say(rt, words[0])?;
     say(rt, words[1])?;
@@ -142,8 +119,8 @@ fn data(rt: HostRuntime, b: Bench, process: u8, words: usize) -> io::Result<()> 
 fn list(rt: HostRuntime, b: Bench) -> io::Result<()> {
     let mut bytes = [0u8; 3];
     match in_transit(b, &mut bytes) {
-        Ok(_) => say(rt, 0),
-        Err(r) => say_refusal(rt, r),
+        Listed::Count(_) => say(rt, 0),
+        Listed::Refused(r) => say(rt, r.number as u32),
     }
 }
 
@@ -154,13 +131,13 @@ fn carrying(rt: HostRuntime, b: Bench) -> io::Result<()> {
     say_answer(rt, a)
 }
 
-fn say_total(rt: HostRuntime, a: TotalAnswer) -> io::Result<()> {
+fn say_total(rt: HostRuntime, a: Result<u64, Refusal>) -> io::Result<()> {
     match a {
-        TotalAnswer::Total(v) => {
+        Ok(v) => {
             say(rt, 0)?;
             say_long(rt, v)
         }
-        TotalAnswer::Refused(r) => say(rt, r.number as u32),
+        Err(r) => say(rt, r.number() as u32),
     }
 }
 
@@ -182,19 +159,16 @@ fn greatest(rt: HostRuntime, n: u8, marks: u16) -> io::Result<()> {
 // The change is from 4.
 fn aggregate(rt: HostRuntime, n: u8, marks: u16, process: u8, entries: &[u32]) -> io::Result<()> {
     match go(n, entries, marks) {
-        GoAnswer::Go(_) => say(rt, 0)?,
-        GoAnswer::Refused(r) => say(rt, r.number as u32)?,
+        Ok(_) => say(rt, 0)?,
+        Err(r) => say(rt, r.number() as u32)?,
     }
     match lead(n, entries, marks) {
-        LeadAnswer::Lead {
-            process: _,
-            portions: _,
-        } => say(rt, 0)?,
-        LeadAnswer::Refused(r) => say(rt, r.number as u32)?,
+        Ok(_) => say(rt, 0)?,
+        Err(r) => say(rt, r.number() as u32)?,
     }
     match change(n, entries, marks, process, 4) {
-        ChangeAnswer::Difference(_) => say(rt, 0),
-        ChangeAnswer::Refused(r) => say(rt, r.number as u32),
+        Ok(_) => say(rt, 0),
+        Err(r) => say(rt, r.number() as u32),
     }
 }
 
@@ -226,26 +200,19 @@ fn of_two(high: u8, low: u8) -> u16 {
     high as u16 * 256 + low as u16
 }
 
-// What is written of a week that is refused.
-const NOBODY: Numbering = Numbering {
-    n: 0,
-    process_of: [0; 16],
-    site_of: [0; 16],
-};
-
 // The week as two numbers, the high one first, and the bytes of the calendar.
 fn calendar(rt: HostRuntime, l: Line) -> io::Result<()> {
     let numbers = l.numbers;
     let asked = of_two(numbers[0], numbers[1]);
     let bytes = rest(&numbers, l.count);
-    let (number, found) = match week(rest(bytes, bytes.len()), asked) {
-        Ok(found) => (0, found),
-        Err(refusal) => (refusal.number(), NOBODY),
-    };
-    say(rt, number as u32)?;
+    let a = week(rest(bytes, bytes.len()), asked);
+    let found = a.numbering;
+    let processes = found.process_of;
+    let sites = found.site_of;
+    say(rt, a.answer as u32)?;
     say(rt, found.n as u32)?;
-    say_sixteen(rt, found.process_of)?;
-    say_sixteen(rt, found.site_of)
+    say_sixteen(rt, processes)?;
+    say_sixteen(rt, sites)
 }
 
 // The calls that only read, with the line's first three numbers

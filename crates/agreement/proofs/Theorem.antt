@@ -11,7 +11,7 @@ use Rattle.sets.specs.Lists.{count_to, each, every_in}
 use Rattle.sets.specs.Truth.{select}
 use Rattle.sets.specs.TruthLaws.{Is, on, off, is}
 use Rattle.global_data.specs.declared.GlobalData.{GlobalData}
-use Rattle.global_data.specs.declared.Entry.TheVariants.{Absent, Value}
+use Rattle.global_data.specs.declared.Value.{Value}
 use Rattle.global_data.specs.GlobalData.{value_in, entry_of, same_to}
 use Rattle.global_data.proofs.Laws.{entry_present, entry_absent, value_present, absent_clear, same_mk}
 use Rattle.process.specs.Steps.{has_decided}
@@ -78,7 +78,7 @@ entry_same : (g g' : GlobalData) (k : ℕ) → has g.present k ≡ has g'.presen
 entry_same g g' k e f = go (is (has g.present k))
   where
     go : Is (has g.present k) → entry_of g k ≡ entry_of g' k
-    go (on u) = entry_present g k u ∙ ap value_in (f u) ∙ sym (entry_present g' k (sym e ∙ u))
+    go (on u) = entry_present g k u ∙ ap (λ w. Some (value_in w)) (f u) ∙ sym (entry_present g' k (sym e ∙ u))
     go (off u) = entry_absent g k u ∙ sym (entry_absent g' k (sym e ∙ u))
 
 module _ (n t : ℕ) (h : List Event) (A : Account n t h) where
@@ -108,17 +108,17 @@ module _ (n t : ℕ) (h : List Event) (A : Account n t h) where
       same_mk n g g' (λ k l.
       ap (λ (f : GlobalData). entry_of f k) (sym u) ∙ same_entry_lem x y k l d d' ∙ ap (λ (f : GlobalData). entry_of f k) u')
 
-  validity_of : (x k p d : ℕ) (g : GlobalData) → outcome (opened_of n t) h x ≡ Some g → entry_of g k ≡ Value p d
-      → started_with h k ≡ Value p d
+  validity_of : (x k : ℕ) (v : Value) (g : GlobalData) → outcome (opened_of n t) h x ≡ Some g → entry_of g k ≡ Some v
+      → started_with h k ≡ Some v
   unfolding view_of
-  validity_of x k p d g e w =
+  validity_of x k v g e w =
       let (f, u) = holds x g e in
-      let w' : entry_of (process_at (after_history n t h) x).estimate k ≡ Value p d = rw u w in
-      let o = value_present _ k p d w' in
+      let w' : entry_of (process_at (after_history n t h) x).estimate k ≡ Some v = rw u w in
+      let o = value_present _ k v w' in
       let E = valid n t _ good.basic good.estimates good.decisions x k f o in
-      (A.told.begun k).started E.1 ∙ ap value_in (sym E.0) ∙ sym (entry_present _ k o) ∙ w'
+      (A.told.begun k).started E.1 ∙ ap (λ w. Some (value_in w)) (sym E.0) ∙ sym (entry_present _ k o) ∙ w'
 
-  absence_of : (x k : ℕ) (g : GlobalData) → x < n → k < n → outcome (opened_of n t) h x ≡ Some g → entry_of g k ≡ Absent
+  absence_of : (x k : ℕ) (g : GlobalData) → x < n → k < n → outcome (opened_of n t) h x ≡ Some g → entry_of g k ≡ None
       → crashed_in (before_decision (opened_of n t) h) k ≡ true
   absence_of x k g l kn e w =
       let (d, u) = holds x g e in
@@ -185,7 +185,7 @@ module _ (n t : ℕ) (h : List Event) (A : Account n t h) where
         shows = shows_of;
         hides = hides_of;
         agreement = λ x y g g' l l'. agreement_of x y g g';
-        validity = λ x k p d g l l'. validity_of x k p d g;
+        validity = λ x k v g l l'. validity_of x k v g;
         absence = absence_of;
         last_round = λ x l. last_round_of x;
         early_round = λ x l. early_round_of x;

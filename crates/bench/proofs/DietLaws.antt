@@ -38,12 +38,12 @@ pub refused_15 : (s : Bench) (l : List ℕ) → sound_of s ≡ true → TooMuchD
 unfolding decode_of start_fits
 refused_15 s l h w =
     refusal_unread s l h _
-    (ap check_diet w.start ∙ diet_unfit (Start w.process w.value) (fits_off _ _ w.exceeds))
+    (ap check_diet w.start ∙ diet_unfit (Start w.process w.value) (fits_off _ w.exceeds))
 
 -- an event that does not pass is a start
 unfit_start : (n t : ℕ) (l : List ℕ) (e : Event) → read_of n t l ≡ Ok e → start_fits e ≡ false → TooMuchDiet n t l
 unfolding start_fits
-unfit_start n t l (Start a v) p f = record { process = a; value = v; start = p; exceeds = fits_not _ _ f }
+unfit_start n t l (Start a v) p f = record { process = a; value = v; start = p; exceeds = fits_not _ f }
 unfit_start n t l (Send a b) p f = clash true refl f
 unfit_start n t l (Arrive a b m) p f = clash true refl f
 unfit_start n t l (Close a) p f = clash true refl f

@@ -1,7 +1,7 @@
 -- The rules before request C-15 beside those of now. A word compared as one number, or as portions and diet portions,
 -- is compared the same (`same_words`), so that an event does the same by both; they differ in refusal 15 alone.
 -- And by either an accepted record is that of an event in range that is let through, with its effect.
-use Rattle.std.specs.Prelude.{◌≡◌, refl, ◌≢◌, List, Bool, true, false, not, ℕ, ◌+◌, length, Some, None, Result, Ok, Err}
+use Rattle.std.specs.Prelude.{◌≡◌, refl, ◌≢◌, List, Bool, true, false, not, ℕ, ◌+◌, length, Some, None, Result, Ok, Err, None as absent}
 use Rattle.std.proofs.Math.Path.{sym, ap, ap₂, fun_ext}
 use Rattle.std.proofs.Common.{◌∙◌, arith}
 use Rattle.sets.specs.Lists.{every}
@@ -30,12 +30,12 @@ use Rattle.bench.specs.Effect.{rows_at, closes_as, effect}
 use Rattle.bench.specs.RunLoop.{effect_decoded, effect_by}
 use Rattle.bench.specs.Closings.{closing_at}
 use Rattle.bench.specs.RunLoop.{closing_decoded, ends_by}
-use Rattle.bench.specs.OldRules.{absent, number, old_entry_of, old_same_entry, old_same_to, old_agreed}
+use Rattle.bench.specs.OldRules.{old_entry_of, old_same_entry, old_same_to, old_agreed}
 use Rattle.bench.specs.OldRules.{old_closing_of, old_close_of, old_effect, old_closing_at}
 
 -- ---- one number is compared as its two halves are
 entry_alike : (b c : Bool) (v w : ℕ)
-    → old_same_entry (select b (number v) absent) (select c (number w) absent) ≡ same_entry (entry_by b v) (entry_by c w)
+    → old_same_entry (select b (Some v) absent) (select c (Some w) absent) ≡ same_entry (entry_by b v) (entry_by c w)
 unfolding old_same_entry same_entry select
 entry_alike true true v w = sym (same_words v w)
 entry_alike true false v w = refl

@@ -3,7 +3,7 @@
 -- A decoded record has its parts by the tests that let it through; an event's bytes are read back digit by digit.
 use Rattle.std.proofs.Math.Path.{◌≡◌, refl, sym, ap}
 use Rattle.std.proofs.Common.{ap₂, ◌∙◌, arith, lit<}
-use Rattle.std.specs.Prelude.{◌≢◌, List, [], ◌∷◌, Bool, true, false, not, ℕ, zero, suc, ◌+◌, ◌-◌, ◌*◌, ◌/◌, ◌%◌, ◌≤◌, ◌<◌, eqb, get_or, length, Result, Ok, Err}
+use Rattle.std.specs.Prelude.{◌≢◌, List, [], ◌∷◌, Bool, true, false, not, ℕ, zero, suc, ◌+◌, ◌-◌, ◌*◌, ◌/◌, ◌%◌, ◌≤◌, ◌<◌, eqb, get_or, length, Result, Ok, Err, Some}
 use Rattle.std.proofs.Math.Nat.{div-div-eq-div-mul}
 use Rattle.sets.specs.Truth.{◌and◌, ◌or◌, same, less, select, one_to}
 use Rattle.sets.specs.TruthLaws.{one_low, one_high, one_mk, Is, on, off, is, select_on, select_off, and_first}
@@ -131,11 +131,12 @@ others_fit a b m false false false true = refl
 others_fit a b m false false false false = refl
 
 -- of a record's kind and value, as the code tests it
-pub start_fits_lem : (kind a b r v : ℕ) → start_fits (event_of kind a b r v) ≡ (not (same kind 1) or diet_fits (value_in v))
+pub start_fits_lem : (kind a b r v : ℕ)
+    → start_fits (event_of kind a b r v) ≡ (not (same kind 1) or diet_fits (Some (value_in v)))
 unfolding start_fits event_of
 start_fits_lem kind a b r v = go (is (same kind 1))
   where
-    go : Is (same kind 1) → start_fits (event_of kind a b r v) ≡ (not (same kind 1) or diet_fits (value_in v))
+    go : Is (same kind 1) → start_fits (event_of kind a b r v) ≡ (not (same kind 1) or diet_fits (Some (value_in v)))
     go (on e) = ap start_fits (select_on _ _ _ e) ∙ sym (or_off_l _ _ (ap not e))
     go (off e) = ap start_fits (select_off _ _ _ e) ∙ others_fit _ _ _ _ _ _ _ ∙ sym (or_mk_l _ _ (ap not e))
 
@@ -145,12 +146,12 @@ module _ (n t kind a b r v : ℕ) (known : one_to 6 kind ≡ true) where
       → check_diet (parts_of n t kind a b r v) ≡ Err Field
   checked_unfit f = ap check_diet (parts_unfit n t kind a b r v known f) ∙ diet_refused _
 
-  pub checked_diet : fields n t kind a b r v ≡ true → (not (same kind 1) or diet_fits (value_in v)) ≡ false
+  pub checked_diet : fields n t kind a b r v ≡ true → (not (same kind 1) or diet_fits (Some (value_in v))) ≡ false
       → check_diet (parts_of n t kind a b r v) ≡ Err Diet
   checked_diet f d =
       ap check_diet (parts_got n t kind a b r v known f) ∙ diet_unfit _ (start_fits_lem kind (a - 1) (b - 1) r v ∙ d)
 
-  pub checked_got : fields n t kind a b r v ≡ true → (not (same kind 1) or diet_fits (value_in v)) ≡ true
+  pub checked_got : fields n t kind a b r v ≡ true → (not (same kind 1) or diet_fits (Some (value_in v))) ≡ true
       → check_diet (parts_of n t kind a b r v) ≡ Ok (event_of kind (a - 1) (b - 1) r v)
   checked_got f d =
       ap check_diet (parts_got n t kind a b r v known f) ∙ diet_fit _ (start_fits_lem kind (a - 1) (b - 1) r v ∙ d)
@@ -313,7 +314,7 @@ encode_of (Suspect a b) = bytes_of 6 (a + 1) (b + 1) 0 0
 
 -- a value has 32 bits, and its diet portions do not exceed its portions
 unfoldable pub ValueFits : Event → Type 0
-ValueFits (Start a v) = (v < 4294967296) × (diet_fits (value_in v) ≡ true)
+ValueFits (Start a v) = (v < 4294967296) × (diet_fits (Some (value_in v)) ≡ true)
 ValueFits (Send a b) = Unit
 ValueFits (Arrive a b m) = Unit
 ValueFits (Close a) = Unit
@@ -323,7 +324,7 @@ ValueFits (Suspect a b) = Unit
 -- so has 0
 pub zero_fits : (a : ℕ) → ValueFits (Start a 0)
 unfolding ValueFits portions_of diet_of
-zero_fits a = (lit< tt, fits_mk 0 0 (omega arith))
+zero_fits a = (lit< tt, fits_mk _ (omega arith))
 
 -- the digits of v, each quotient taken from the one before
 four : (v a b c : ℕ) → a ≡ v / 256 → b ≡ a / 256 → c ≡ b / 256 → v < 4294967296

@@ -88,7 +88,7 @@ plain_fits : (e : Event) → plain_start e ≡ true → start_fits e ≡ true
 unfolding plain_start start_fits
 plain_fits (Start a v) p =
     let w = plain_word v (less_on v 65536 p) in
-    fits_mk _ _ (omega (arith, w.1))
+    fits_mk _ (omega (arith, w.1))
 plain_fits (Send a b) p = refl
 plain_fits (Arrive a b m) p = refl
 plain_fits (Close a) p = refl

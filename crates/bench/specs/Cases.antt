@@ -5,9 +5,8 @@ use Rattle.std.specs.Int.Count.{ones}
 use Rattle.sets.specs.Lists.{each, every, every_in}
 use Rattle.sets.specs.Set.{has, insert_of, remove_of, union_of, intersection_of, difference_of, all_of, size_of, within}
 use Rattle.sets.specs.Truth.{◌and◌, ◌or◌, same, less, select, one_to, check}
-use Rattle.global_data.specs.declared.Entry.{Entry}
-use Rattle.global_data.specs.declared.Entry.TheVariants.{Absent, Value}
-use Rattle.global_data.specs.GlobalData.{portions_of, diet_of, entry_of, same_entry, diet_fits, nothing_of, one_of}
+use Rattle.global_data.specs.GlobalData.{portions_of, diet_of, Entry, entry_with, entry_of, same_entry, diet_fits}
+use Rattle.global_data.specs.GlobalData.{nothing_of, one_of}
 use Rattle.global_data.specs.GlobalData.{filled_word, fill_of, fill_from, same_to, all_same}
 use Rattle.process.specs.Steps.{has_decided, idle_of, takes_part, open_round_of, start_of, keeps, receive_of}
 use Rattle.process.specs.Steps.{arrived_of, due_of, next_of, peers_of, filled_of, agreed_of, closing_of}
@@ -180,12 +179,12 @@ case1 =
       answers = 0 ∷ 0 ∷ [];
       closings = at 2 LastRound ∷ [];
       lines =
-          line 1 1 false true 1 (Value 7 0 ∷ []) ∷ [];
+          line 1 1 false true 1 (entry_with 7 0 ∷ []) ∷ [];
     }
 
 -- 2: three processes, no crash, all decide in round 2, each since the estimates agree
 all_three : ℕ → Line
-all_three a = line a 2 false true 7 (Value 5 0 ∷ Value 6 0 ∷ Value 7 0 ∷ [])
+all_three a = line a 2 false true 7 (entry_with 5 0 ∷ entry_with 6 0 ∷ entry_with 7 0 ∷ [])
 
 case2 : Case
 case2 =
@@ -212,7 +211,7 @@ case3 =
       answers = 0 ∷ 0 ∷ [];
       closings = at 2 LastRound ∷ [];
       lines =
-          line 1 1 false true 1 (Value 0 0 ∷ []) ∷ [];
+          line 1 1 false true 1 (entry_with 0 0 ∷ []) ∷ [];
     }
 
 -- 4: the program's input, all twelve answers and both final lines; 6 on top of it: a crash too many
@@ -229,8 +228,8 @@ case4and6 =
       answers = 0 ∷ 0 ∷ 0 ∷ 0 ∷ 0 ∷ 0 ∷ 0 ∷ 0 ∷ 0 ∷ 8 ∷ 0 ∷ 0 ∷ 9 ∷ [];
       closings = at 7 NextRound ∷ at 12 LastRound ∷ [];
       lines =
-          line 1 2 false true 3 (Value 40 0 ∷ Value 25 0 ∷ [])
-          ∷ line 2 1 true false 3 (Absent ∷ Value 25 0 ∷ []) ∷ [];
+          line 1 2 false true 3 (entry_with 40 0 ∷ entry_with 25 0 ∷ [])
+          ∷ line 2 1 true false 3 (None ∷ entry_with 25 0 ∷ []) ∷ [];
     }
 
 -- 5: sizes that open and sizes that do not
@@ -247,7 +246,7 @@ case7 =
       records = start 1 40 ∷ start 2 25 ∷ send 1 2 ∷ send 2 1 ∷ arrive 2 1 1 ∷ crash 2 ∷ suspect 1 2 ∷ close 1 ∷ [];
       answers = 0 ∷ 0 ∷ 0 ∷ 0 ∷ 0 ∷ 0 ∷ 0 ∷ 0 ∷ [];
       closings = at 8 NextRound ∷ [];
-      lines = line 1 2 false false 3 (Value 40 0 ∷ Value 25 0 ∷ []) ∷ [];
+      lines = line 1 2 false false 3 (entry_with 40 0 ∷ entry_with 25 0 ∷ []) ∷ [];
     }
 
 -- 8: equal estimates with previous and next differing, in a round below t + 1: no decision
@@ -260,7 +259,7 @@ case8 =
       records = start 1 5 ∷ crash 2 ∷ suspect 1 2 ∷ send 1 2 ∷ close 1 ∷ [];
       answers = 0 ∷ 0 ∷ 0 ∷ 0 ∷ 0 ∷ [];
       closings = at 5 NextRound ∷ [];
-      lines = line 1 2 false false 1 (Value 5 0 ∷ Absent ∷ []) ∷ [];
+      lines = line 1 2 false false 1 (entry_with 5 0 ∷ None ∷ []) ∷ [];
     }
 
 -- one more: the estimate sent in a round is the one held when it opened, though its sender has since closed that round
@@ -277,8 +276,8 @@ case9 =
       answers = 0 ∷ 0 ∷ 0 ∷ 0 ∷ 0 ∷ 0 ∷ 0 ∷ 0 ∷ 0 ∷ 0 ∷ 0 ∷ 0 ∷ 0 ∷ 0 ∷ 0 ∷ [];
       closings = at 12 NextRound ∷ at 15 NextRound ∷ [];
       lines =
-          line 1 2 false false 7 (Value 5 0 ∷ Value 6 0 ∷ Value 7 0 ∷ [])
-          ∷ line 2 2 false false 3 (Value 5 0 ∷ Value 6 0 ∷ Absent ∷ []) ∷ [];
+          line 1 2 false false 7 (entry_with 5 0 ∷ entry_with 6 0 ∷ entry_with 7 0 ∷ [])
+          ∷ line 2 2 false false 3 (entry_with 5 0 ∷ entry_with 6 0 ∷ None ∷ []) ∷ [];
     }
 
 -- and one: a decision that arrives decides, and is no close
@@ -293,7 +292,7 @@ case10 =
           ∷ [];
       answers = 0 ∷ 0 ∷ 0 ∷ 0 ∷ 0 ∷ 0 ∷ 0 ∷ 0 ∷ 0 ∷ [];
       closings = at 7 LastRound ∷ [];
-      lines = line 2 1 false true 3 (Value 5 0 ∷ Value 6 0 ∷ []) ∷ [];
+      lines = line 2 1 false true 3 (entry_with 5 0 ∷ entry_with 6 0 ∷ []) ∷ [];
     }
 
 -- and C-15's: a start's two numbers at their ends, and 15 between 5 and 6
@@ -306,7 +305,7 @@ values p d =
       records = start_with 1 p d ∷ close 1 ∷ [];
       answers = 0 ∷ 0 ∷ [];
       closings = at 2 LastRound ∷ [];
-      lines = line 1 1 false true 1 (Value p d ∷ []) ∷ [];
+      lines = line 1 1 false true 1 (entry_with p d ∷ []) ∷ [];
     }
 
 -- one more diet portion than portions; then 5 before 15 (no process 3), and 15 before 6 and before 7
@@ -322,7 +321,7 @@ too_much =
           ∷ start_with 1 4 4 ∷ crash 2 ∷ start_with 2 3 4 ∷ start_with 2 4 4 ∷ [];
       answers = 15 ∷ 15 ∷ 15 ∷ 5 ∷ 0 ∷ 15 ∷ 7 ∷ 0 ∷ 15 ∷ 6 ∷ [];
       closings = [];
-      lines = line 1 1 false false 3 (Value 40 3 ∷ Absent ∷ []) ∷ line 2 0 true false 0 (Absent ∷ Absent ∷ []) ∷ [];
+      lines = line 1 1 false false 3 (entry_with 40 3 ∷ None ∷ []) ∷ line 2 0 true false 0 (None ∷ None ∷ []) ∷ [];
     }
 
 -- a bench that no schedule reaches: process 1 has started with 3 portions and 5 diet portions. It passes 2 and is
@@ -343,8 +342,8 @@ held_case =
       answers = 15 ∷ 7 ∷ 0 ∷ 0 ∷ 0 ∷ 0 ∷ 0 ∷ 0 ∷ 0 ∷ 0 ∷ 0 ∷ 0 ∷ 0 ∷ [];
       closings = at 8 NextRound ∷ at 9 NextRound ∷ at 13 LastRound ∷ [];
       lines =
-          line 1 2 false true 3 (Value 3 5 ∷ Value 25 0 ∷ [])
-          ∷ line 2 2 false false 3 (Value 3 5 ∷ Value 25 0 ∷ []) ∷ [];
+          line 1 2 false true 3 (entry_with 3 5 ∷ entry_with 25 0 ∷ [])
+          ∷ line 2 2 false false 3 (entry_with 3 5 ∷ entry_with 25 0 ∷ []) ∷ [];
     }
 
 pub table : List Case
@@ -388,8 +387,8 @@ carried_over =
       new-answers = 0 ∷ 0 ∷ 0 ∷ 0 ∷ 8 ∷ 0 ∷ 0 ∷ [];
       again = 0;
       lines =
-          line 1 2 false true 3 (Value 40 0 ∷ Value 65535 0 ∷ [])
-          ∷ line 2 1 true false 3 (Absent ∷ Value 65535 0 ∷ []) ∷ [];
+          line 1 2 false true 3 (entry_with 40 0 ∷ entry_with 65535 0 ∷ [])
+          ∷ line 2 1 true false 3 (None ∷ entry_with 65535 0 ∷ []) ∷ [];
     }
 
 -- the value 65,536 is refused by 16 where its start was accepted, also once its process has crashed
@@ -420,7 +419,7 @@ unheld =
       new = start_with 1 0 1 ∷ start_with 2 0 1 ∷ start_with 3 25 3 ∷ [];
       new-answers = 15 ∷ 15 ∷ 0 ∷ [];
       again = 16;
-      lines = line 2 1 false false 7 (Absent ∷ Value 5 0 ∷ Absent ∷ []) ∷ [];
+      lines = line 2 1 false false 7 (None ∷ entry_with 5 0 ∷ None ∷ []) ∷ [];
     }
 
 pub weeks : List Week

@@ -1,5 +1,5 @@
 -- Records (document 01): 8 bytes, kind, a, b, r, then value, low byte first; and refusals 3, 4, 5 and 15.
-use Rattle.std.specs.Prelude.{List, Bool, true, not, ℕ, ◌+◌, ◌-◌, ◌*◌, get_or, length, Result, Ok, Err}
+use Rattle.std.specs.Prelude.{List, Bool, true, not, ℕ, ◌+◌, ◌-◌, ◌*◌, get_or, length, Result, Ok, Err, Some}
 use Rattle.sets.specs.Truth.{◌and◌, ◌or◌, same, less, one_to, select}
 use Rattle.global_data.specs.GlobalData.{value_in, diet_fits}
 use Rattle.refusal.specs.declared.Refusal.{Refusal}
@@ -69,7 +69,7 @@ by_kind start close crash other (Suspect a b) = other
 
 -- the diet portions of a start do not exceed its portions; no other record has any
 unfoldable pub start_fits : Event → Bool
-start_fits e = by_kind (λ a v. diet_fits (value_in v)) (λ a. true) true true e
+start_fits e = by_kind (λ a v. diet_fits (Some (value_in v))) (λ a. true) true true e
 
 -- refusal 15 (request C-15), after 3, 4 and 5
 unfoldable pub check_diet : Result Event Refusal → Result Event Refusal

@@ -2,7 +2,7 @@
 use crate::line::{Line, rest};
 use aggregates::{ChangeAnswer, GoAnswer, LeadAnswer, TotalAnswer, change, go, lead, total};
 use bench::{Answer, Bench, Cause, Listed, Shown};
-use calendar::week;
+use calendar::{Numbering, week};
 use carry::carry;
 use decision::global_data;
 use one_record::step_bytes;
@@ -202,19 +202,26 @@ fn of_two(high: u8, low: u8) -> u16 {
     high as u16 * 256 + low as u16
 }
 
+// What is written of a week that is refused.
+const NOBODY: Numbering = Numbering {
+    n: 0,
+    process_of: [0; 16],
+    site_of: [0; 16],
+};
+
 // The week as two numbers, the high one first, and the bytes of the calendar.
 fn calendar(rt: HostRuntime, l: Line) -> io::Result<()> {
     let numbers = l.numbers;
     let asked = of_two(numbers[0], numbers[1]);
     let bytes = rest(&numbers, l.count);
-    let a = week(rest(bytes, bytes.len()), asked);
-    let found = a.numbering;
-    let processes = found.process_of;
-    let sites = found.site_of;
-    say(rt, a.answer as u32)?;
+    let (number, found) = match week(rest(bytes, bytes.len()), asked) {
+        Ok(found) => (0, found),
+        Err(refusal) => (refusal.number(), NOBODY),
+    };
+    say(rt, number as u32)?;
     say(rt, found.n as u32)?;
-    say_sixteen(rt, processes)?;
-    say_sixteen(rt, sites)
+    say_sixteen(rt, found.process_of)?;
+    say_sixteen(rt, found.site_of)
 }
 
 // The calls that only read, with the line's first three numbers

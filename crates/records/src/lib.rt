@@ -1,14 +1,14 @@
 // A record's 8 bytes, decoded: kind, a, b, r, then a value, low byte first; refusals 3, 4, 5 and 15.
 #![tactic(auto)]
 
-ghost use Rattle.std.specs.Prelude.{◌≡◌, true, not, ◌+◌, ◌-◌};
+ghost use Rattle.std.specs.Prelude.{◌≡◌, true, not, Some, ◌+◌, ◌-◌};
 ghost use Rattle.bench.specs.Record.{word_of, uses_b};
 ghost use Rattle.bench.specs.Record.{fields, message_from, event_of, parts_of, check_diet, decode_of};
 ghost use Rattle.global_data.specs.GlobalData.{value_in, diet_fits};
 ghost use Rattle.sets.specs.Truth.{◌and◌, ◌or◌, same, less, one_to, select};
 
 use bench::{Event, Message};
-use global_data::{diet_fits, value_in};
+use global_data::{Value, diet_fits};
 use refusal::Refusal;
 
 fn word(a: u8, b: u8, c: u8, d: u8) -> u32
@@ -97,9 +97,9 @@ fn event(kind: u8, a: usize, b: usize, r: u8, v: u32) -> Event
 
 // The diet portions do not exceed the portions, where the record is a start.
 fn diet_ok(kind: u8, v: u32) -> bool
-    ensures { result ≡ (not (same kind 1) or diet_fits (value_in v)) }
+    ensures { result ≡ (not (same kind 1) or diet_fits (Some (value_in v))) }
 {
-    (kind != 1) | diet_fits(value_in(v))
+    (kind != 1) | diet_fits(Some(Value::from(v)))
 }
 
 // A record of a kind 1 to 6.

@@ -37,7 +37,7 @@ fn put_cause(out: &mut [u8], at: usize, k: u64, cause: Cause) -> usize
     match cause {
         Cause::Empty => at,
         Cause::Spent => at,
-        Cause::Refused(r) => put_line(out, at, k, r.number),
+        Cause::Refused(r) => put_line(out, at, k, r.number()),
     }
 }
 

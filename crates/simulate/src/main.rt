@@ -12,7 +12,7 @@ ghost use Rattle.simulate.specs.LinesLaws.{Reached};
 
 use crate::lines::lines;
 use crate::opening::opening;
-use bench::{Answer, Bench};
+use bench::Bench;
 use reading::read_full;
 use std::io;
 use std::io::Write;
@@ -89,13 +89,10 @@ fn open(rt: HostRuntime, input: &mut [u8], out: &mut [u8]) -> io::Result<()>
     requires { (length input.old ≡ 8192) × (length out.old ≡ 32 * 1024) }
 {
     let read = read_full(&mut rt.stdin(), &mut input[..8])?;
-    let opened = opening(&input[..read]);
-    let b = opened.bench;
-    let answer = opened.answer;
-    match answer {
-        Answer::Accepted => simulate(rt, b, input, out),
-        Answer::Refused(r) => {
-            let place = put_line(out, 0, 0, r.number);
+    match opening(&input[..read]) {
+        Ok(bench) => simulate(rt, bench, input, out),
+        Err(refusal) => {
+            let place = put_line(out, 0, 0, refusal.number());
             rt.stdout().write_all(&out[..place])
         }
     }

@@ -2,7 +2,7 @@
 // Each function gives the place after what it wrote.
 ghost use Rattle.std.specs.Prelude.{[], ◌∷◌, ◌+◌, ◌≤◌, ◌<◌, length};
 ghost use Rattle.bench.specs.TransitLaws.{Stores};
-ghost use Rattle.global_data.specs.declared.Entry.TheVariants.{Value};
+ghost use Rattle.global_data.specs.GlobalData.{entry_with};
 ghost use Rattle.text.specs.Text.{decimal, field_of, entry_text, line_of};
 ghost use Rattle.text.specs.TextLaws.{Puts};
 
@@ -39,7 +39,7 @@ pub fn put_field(out: &mut [u8], at: usize, x: u32) -> usize
 // A value after a space: portions and diet portions.
 pub fn put_value(out: &mut [u8], at: usize, portions: u16, diet: u16) -> usize
     requires { at + 12 ≤ length out.old }
-    ensures { Puts 12 out.old at (entry_text (Value portions diet)) out.new result }
+    ensures { Puts 12 out.old at (entry_text (entry_with portions diet)) out.new result }
 {
     let p = put_field(out, at, portions as u32);
     let q = put_byte(out, p, 47);

@@ -3,11 +3,11 @@
 use Rattle.std.specs.Prelude.{◌≡◌, refl, List, [], ◌∷◌, ◌++◌, Bool, true, false, ◌⊎◌, ℕ, ◌+◌, Option, Some, None, is_some}
 use Rattle.std.specs.Option.{option_or, option_map_or}
 use Rattle.std.proofs.Common.{sym, ap, ◌∙◌, inl, inr, arith}
+use Rattle.std.specs.Option.{option_or}
 use Rattle.sets.specs.Truth.{◌and◌, ◌or◌, same, select}
 use Rattle.sets.specs.TruthLaws.{Is, on, off, is, clash, select_on, or_none_l, or_none_r, or_cases, same_refl}
 use Rattle.global_data.specs.declared.GlobalData.{GlobalData}
 use Rattle.global_data.specs.GlobalData.{value_in}
-use Rattle.global_data.proofs.Laws.{or_entry}
 use Rattle.process.specs.declared.Process.{Process}
 use Rattle.process.specs.Steps.{has_decided, close_of}
 use Rattle.bench.specs.declared.Bench.{Bench}
@@ -99,14 +99,15 @@ unfolding crash_count
 crashes_append [] g = omega arith
 crashes_append (e ∷ h) g = omega (arith, crashes_append h g)
 
-pub started_append : (h g : List Event) (k : ℕ) → started_with (h ++ g) k ≡ or_entry (started_with h k) (started_with g k)
-unfolding started_with or_entry select
+pub started_append : (h g : List Event) (k : ℕ)
+    → started_with (h ++ g) k ≡ option_or (started_with h k) (started_with g k)
+unfolding started_with select
 started_append [] g k = refl
 started_append (Start a v ∷ h) g k = go (same a k) (started_append h g k)
   where
-    go : (b : Bool) → started_with (h ++ g) k ≡ or_entry (started_with h k) (started_with g k)
-        → select b (value_in v) (started_with (h ++ g) k)
-        ≡ or_entry (select b (value_in v) (started_with h k)) (started_with g k)
+    go : (b : Bool) → started_with (h ++ g) k ≡ option_or (started_with h k) (started_with g k)
+        → select b (Some (value_in v)) (started_with (h ++ g) k)
+        ≡ option_or (select b (Some (value_in v)) (started_with h k)) (started_with g k)
     go true ih = refl
     go false ih = ih
 started_append (Send a b ∷ h) g k = started_append h g k

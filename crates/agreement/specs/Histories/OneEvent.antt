@@ -10,7 +10,6 @@ use Rattle.sets.specs.TruthLaws.{Is, on, off, is, select_on, select_off, select_
 use Rattle.sets.specs.TruthLaws.{not_on, off_by, or_off_r, same_on, same_mk, same_off, same_refl}
 use Rattle.sets.specs.TruthLaws.{less_on, by_both, eq-or}
 use Rattle.global_data.specs.declared.GlobalData.{GlobalData}
-use Rattle.global_data.specs.declared.Entry.TheVariants.{Absent}
 use Rattle.global_data.specs.GlobalData.{value_in}
 use Rattle.process.specs.declared.Process.{Process}
 use Rattle.process.specs.Steps.{has_decided, takes_part, open_round_of, start_of, keeps, receive_of}
@@ -258,13 +257,13 @@ select-same false x = refl
 -- a record is the start of k, or starts nobody there and opens no first round
 pub start_or : (e : Event) (s : Bench) (k : ℕ) → Passes e s
     → ((v : ℕ) × (e ≡ Start k v))
-    ⊎ ((started_with (e ∷ []) k ≡ Absent) × ((process_at s k).round ≡ 0 → opens_for e s k ≡ 0))
+    ⊎ ((started_with (e ∷ []) k ≡ None) × ((process_at s k).round ≡ 0 → opens_for e s k ≡ 0))
 unfolding started_with opens_at actor passes7
 start_or (Start a v) s k A = go (eq-or a k)
   where
     go : (a ≡ k) ⊎ (a ≢ k)
         → ((u : ℕ) × (Start a v ≡ Start k u))
-        ⊎ ((select (same a k) (value_in v) Absent ≡ Absent)
+        ⊎ ((select (same a k) (Some (value_in v)) None ≡ None)
         × ((process_at s k).round ≡ 0 → ◌≡◌ {A = ℕ} (select (same a k) 1 0) 0))
     go (inl w) = inl (v, ap (λ (x : ℕ). Start x v) w)
     go (inr w) = inr (select_off _ _ _ (same_off a k w), λ z. select_off _ _ _ (same_off a k w))

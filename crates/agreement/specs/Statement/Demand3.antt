@@ -4,7 +4,7 @@ use Rattle.std.specs.Prelude.{◌≡◌, ◌≢◌, List, [], ◌++◌, true, fa
 use Rattle.std.proofs.Math.Pow.{are_bytes}
 use Rattle.sets.specs.Lists.{each}
 use Rattle.global_data.specs.declared.GlobalData.{GlobalData}
-use Rattle.global_data.specs.declared.Entry.TheVariants.{Absent, Value}
+use Rattle.global_data.specs.declared.Value.{Value}
 use Rattle.global_data.specs.GlobalData.{entry_of, same_to}
 use Rattle.bench.specs.declared.Bench.{Bench}
 use Rattle.bench.specs.declared.Event.{Event}
@@ -29,11 +29,11 @@ pub record Holds (n t : ℕ) (h : List Event) (s : Bench) : Type 0 where
   -- c: agreement, of crashed processes too: absent entries, portions and diet portions are the same
   pub agreement : (x y : ℕ) (g g' : GlobalData) → x < n → y < n → outcome (opened_of n t) h x ≡ Some g
       → outcome (opened_of n t) h y ≡ Some g' → same_to n g g' ≡ true
-  -- d: validity: a present entry has the portions p and the diet portions d of that process's start
-  pub validity : (x k p d : ℕ) (g : GlobalData) → x < n → k < n → outcome (opened_of n t) h x ≡ Some g
-      → entry_of g k ≡ Value p d → started_with h k ≡ Value p d
+  -- d: validity: a present entry has the portions and the diet portions of that process's start
+  pub validity : (x k : ℕ) (v : Value) (g : GlobalData) → x < n → k < n → outcome (opened_of n t) h x ≡ Some g
+      → entry_of g k ≡ Some v → started_with h k ≡ Some v
   -- e: an absent entry only where that process crashed before the first decision
-  pub absence : (x k : ℕ) (g : GlobalData) → x < n → k < n → outcome (opened_of n t) h x ≡ Some g → entry_of g k ≡ Absent
+  pub absence : (x k : ℕ) (g : GlobalData) → x < n → k < n → outcome (opened_of n t) h x ≡ Some g → entry_of g k ≡ None
       → crashed_in (before_decision (opened_of n t) h) k ≡ true
   -- f: how many rounds x has opened: at most t + 1, and by the number of crashes in the history
   pub last_round : (x : ℕ) → x < n → rounds (opened_of n t) h x ≤ t + 1

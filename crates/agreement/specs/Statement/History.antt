@@ -4,9 +4,7 @@ use Rattle.std.specs.Prelude.{List, [], ◌∷◌, ◌++◌, Bool, false, ℕ, �
 use Rattle.std.specs.Option.{option_or, option_map_or}
 use Rattle.sets.specs.Truth.{◌and◌, ◌or◌, same, bit, select}
 use Rattle.global_data.specs.declared.GlobalData.{GlobalData}
-use Rattle.global_data.specs.declared.Entry.{Entry}
-use Rattle.global_data.specs.declared.Entry.TheVariants.{Absent}
-use Rattle.global_data.specs.GlobalData.{value_in}
+use Rattle.global_data.specs.GlobalData.{value_in, Entry}
 use Rattle.refusal.specs.declared.Refusal.{Refusal}
 use Rattle.process.specs.declared.Closing.{Closing}
 use Rattle.process.specs.Steps.{takes_part, filled_of, decides_of}
@@ -107,12 +105,12 @@ before_decision s [] = []
 before_decision s (e ∷ h) = option_map_or (λ g. []) (decides_at e s) (e ∷ before_decision (effect e s) h)
 
 -- ---- starts, crashes and rounds in a history
--- the value of the start of k, portions and diet portions; Absent where it has not started
+-- the value of the start of k, portions and diet portions; absent where it has not started
 unfoldable pub started_with : List Event → ℕ → Entry
-started_with [] k = Absent
+started_with [] k = None
 started_with (e ∷ h) k =
     let rest = started_with h k in
-    by_kind (λ a v. select (same a k) (value_in v) rest) (λ a. rest) rest rest e
+    by_kind (λ a v. select (same a k) (Some (value_in v)) rest) (λ a. rest) rest rest e
 
 -- the crash of k stands there
 unfoldable pub crashed_in : List Event → ℕ → Bool

@@ -20,4 +20,4 @@ returns-in-Spent c = rw c.in-Spent.is (puts_none _ _)
 
 pub returns-in-Refused : goal.returns-in-Refused
 unfolding refused_in cause_text
-returns-in-Refused c = rw c.in-Refused.is c.put_line.ensures
+returns-in-Refused c = rw (c.in-Refused.is, ← c.number.ensures) c.put_line.ensures

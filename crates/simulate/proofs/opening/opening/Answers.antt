@@ -4,23 +4,21 @@ use Rattle.simulate.specs.OpeningLaws.{opening_size, opening_kind, opening_r, op
 use Rattle.simulate.proofs.opening.opening.Goals as goal
 
 pub returns-then-bytes-ne8 : goal.returns-then-bytes-ne8
-returns-then-bytes-ne8 c = c.turned_away.ensures ∙ sym (opening_size _ c.if-bytes-ne8.true)
+returns-then-bytes-ne8 c = sym (opening_size _ c.if-bytes-ne8.true)
 
 pub returns-then-bytes-ne0 : goal.returns-then-bytes-ne0
 returns-then-bytes-ne0 c =
-    c.turned_away-then-bytes-ne0.ensures ∙ sym (opening_kind _ c.if-bytes-ne8.false c.if-bytes-ne0.true)
+    sym (opening_kind _ c.if-bytes-ne8.false c.if-bytes-ne0.true)
 
 pub returns-then-bytes-ne0-2 : goal.returns-then-bytes-ne0-2
 returns-then-bytes-ne0-2 c =
-    c.turned_away-then-bytes-ne0-2.ensures
-    ∙ sym (opening_r _ c.if-bytes-ne8.false c.if-bytes-ne0.false
+    sym (opening_r _ c.if-bytes-ne8.false c.if-bytes-ne0.false
     c.if-bytes-ne0-2.true)
 
 pub returns-then-not-is_zero : goal.returns-then-not-is_zero
 returns-then-not-is_zero c =
     let z = c.is_zero in
-    c.turned_away-then-not-is_zero.ensures
-    ∙ sym (opening_value _
+    sym (opening_value _
     c.if-bytes-ne8.false
     c.if-bytes-ne0.false
     (sym z.ensures ∙ c.if-not-is_zero.true))

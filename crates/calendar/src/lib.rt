@@ -24,11 +24,15 @@ impl TryFrom<u8> for Kind {
     ghost try_from_gives = { DecodesKind };
 
     fn try_from(number: u8) -> Result<Self, Refusal> {
-        match number {
-            1 => Ok(Kind::Term),
-            2 => Ok(Kind::Closed),
-            _ => Err(Refusal::Calendar),
+        // Without a jump by the kind, as a `match` makes one: kinds come in any order.
+        if !(1..=2).contains(&number) {
+            return Err(Refusal::Calendar);
         }
+        Ok(if number == 1 {
+            Kind::Term
+        } else {
+            Kind::Closed
+        })
     }
 }
 
@@ -64,11 +68,15 @@ impl TryFrom<[u8; 8]> for Period {
     }
 }
 
-// How many of Monday to Friday come before a day.
+// How many of Monday to Friday come before a day. Without a jump: `saturating_sub` and `min` in a row make one.
 fn weekdays_before(monday: u32, day: u32) -> usize
     ensures { result ≡ min (day - monday) 5 }
 {
-    day.saturating_sub(monday).min(5) as usize
+    if day <= monday {
+        0
+    } else {
+        (day - monday).min(5) as usize
+    }
 }
 
 impl Period {

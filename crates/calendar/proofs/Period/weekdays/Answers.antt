@@ -1,7 +1,7 @@
 -- The weekdays before the end of the period, without those before its beginning.
 use Rattle.calendar.specs.PassLaws.{record_of}
 use Rattle.calendar.proofs.PassLaws.{weekdays}
-use Rattle.calendar.proofs.weekdays_in.Goals as goal
+use Rattle.calendar.proofs.Period.weekdays.Goals as goal
 
 pub returns : goal.returns
 returns c =
@@ -13,4 +13,4 @@ returns c =
       c.weekdays_before-until.ensures,
       c.weekdays_before-from.ensures,
     )
-    (weekdays a.monday (record_of a.period))
+    (weekdays a.monday (record_of a.self))

@@ -1,5 +1,5 @@
 // The calls that a line can name, with their numbers. Each writes its answer, 0 or the refusal, and what it gives.
-use crate::line::{Line, rest};
+use crate::line::Line;
 use aggregates::{ChangeAnswer, GoAnswer, LeadAnswer, TotalAnswer, change, go, lead, total};
 use bench::{Answer, Bench, Cause, Listed, Shown};
 use calendar::week;
@@ -8,96 +8,76 @@ use decision::global_data;
 use one_record::step_bytes;
 use process::{Closing, Process};
 use run::run_bytes;
+use std::fmt::Display;
 use std::io;
 use transit::in_transit;
 
-fn say_long(rt: HostRuntime, number: u64) -> io::Result<()> {
-    print!(rt; " {number}")
-}
-
-fn say(rt: HostRuntime, number: u32) -> io::Result<()> {
-    say_long(rt, number as u64)
+fn say(rt: HostRuntime, x: impl Display + Drop) -> io::Result<()> {
+    print!(rt; " {x}")
 }
 
 fn say_answer(rt: HostRuntime, a: Answer) -> io::Result<()> {
     match a {
         Answer::Accepted => say(rt, 0),
-        Answer::Refused(r) => say(rt, r.number as u32),
+        Answer::Refused(r) => say(rt, r.number),
     }
 }
 
 fn say_closing(rt: HostRuntime, c: Closing) -> io::Result<()> {
-    match c {
-        Closing::None => print!(rt; " -"),
-        Closing::NextRound => print!(rt; " next"),
-        Closing::Agreed => print!(rt; " agreed"),
-        Closing::LastRound => print!(rt; " last"),
-    }
+    say(
+        rt,
+        match c {
+            Closing::None => "-",
+            Closing::NextRound => "next",
+            Closing::Agreed => "agreed",
+            Closing::LastRound => "last",
+        },
+    )
 }
 
-fn open(rt: HostRuntime, n: u8, t: u8) -> io::Result<Bench> {
-    let o = Bench::open(n, t);
-    let a = o.answer;
-    say_answer(rt, a)?;
-    Ok(o.bench)
+fn open(rt: HostRuntime, bench: &mut Bench, n: u8, t: u8) -> io::Result<()> {
+    let opened = Bench::open(n, t);
+    *bench = opened.bench;
+    say_answer(rt, opened.answer)
 }
 
 fn say_run(rt: HostRuntime, accepted: u32, cause: Cause) -> io::Result<()> {
     say(rt, accepted)?;
     match cause {
-        Cause::Empty => print!(rt; " empty"),
-        Cause::Spent => print!(rt; " spent"),
-        Cause::Refused(r) => say(rt, r.number as u32),
+        Cause::Empty => say(rt, "empty"),
+        Cause::Spent => say(rt, "spent"),
+        Cause::Refused(r) => say(rt, r.number),
     }
 }
 
 // A budget and bytes: the call for one record and run are both given the bench, and the one that run gives is kept.
-fn records(rt: HostRuntime, b: Bench, l: Line) -> io::Result<Bench> {
-    let numbers = l.numbers;
-    let budget = numbers[0] as u32;
-    let bytes = rest(&numbers, l.count);
-    let s = step_bytes(b, bytes);
-    let a = s.answer;
-    let c = s.closing;
-    say_answer(rt, a)?;
-    say_closing(rt, c)?;
-    let e = run_bytes(b, bytes, budget);
-    let cause = e.cause;
-    let closing = e.closing;
-    say_run(rt, e.accepted, cause)?;
-    say_closing(rt, closing)?;
-    Ok(e.bench)
-}
-
-// Process 2 is put into a round, so that the bench can be damaged.
-fn force(b: Bench, round: u8) -> Bench {
-    let mut c = b;
-    let mut p = c.processes[1];
-    p.round = round;
-    c.processes[1] = p;
-    c
-}
-
-fn say_process(rt: HostRuntime, p: Process, crashed: u16) -> io::Result<()> {
-    say(rt, p.round as u32)?;
-    say(rt, if p.has_decided() { 1 } else { 0 })?;
-    say(rt, p.current as u32)?;
-    say(rt, crashed as u32)
+fn records(rt: HostRuntime, bench: &mut Bench, budget: u8, bytes: &[u8]) -> io::Result<()> {
+    let stepped = step_bytes(*bench, bytes);
+    say_answer(rt, stepped.answer)?;
+    say_closing(rt, stepped.closing)?;
+    let ended = run_bytes(*bench, bytes, u32::from(budget));
+    *bench = ended.bench;
+    say_run(rt, ended.accepted, ended.cause)?;
+    say_closing(rt, ended.closing)
 }
 
 // A process, from 1.
 fn process(rt: HostRuntime, b: Bench, number: u8) -> io::Result<()> {
-    let at = ((number % 16) as usize + 15) % 16;
-    say_process(rt, b.processes[at], b.crashed)
+    let p = b.processes[(usize::from(number % 16) + 15) % 16];
+    let round = p.round;
+    let decided = u8::from(p.has_decided());
+    let current = p.current;
+    let crashed = b.crashed;
+    print!(rt; " {round} {decided} {current} {crashed}")
 }
 
 fn say_shown(rt: HostRuntime, s: Shown, words: [u32; 16]) -> io::Result<()> {
     match s {
         Shown::Marks(m) => {
             say(rt, 0)?;
-            say(rt, m as u32)?;
+            say(rt, m)?;
         }
-        Shown::Refused(r) => say(rt, r.number as u32)?,
+        Shown::Refused(r) => say(rt, r.number)?,
     }
     say(rt, words[0])?;
     say(rt, words[1])?;
@@ -119,24 +99,21 @@ fn list(rt: HostRuntime, b: Bench) -> io::Result<()> {
     let mut bytes = [0u8; 3];
     match in_transit(b, &mut bytes) {
         Listed::Count(_) => say(rt, 0),
-        Listed::Refused(r) => say(rt, r.number as u32),
+        Listed::Refused(r) => say(rt, r.number),
     }
 }
 
-// The bench is as it was in any case.
 fn carrying(rt: HostRuntime, b: Bench) -> io::Result<()> {
-    let c = carry(b);
-    let a = c.answer;
-    say_answer(rt, a)
+    say_answer(rt, carry(b).answer)
 }
 
 fn say_total(rt: HostRuntime, a: TotalAnswer) -> io::Result<()> {
     match a {
         TotalAnswer::Total(v) => {
             say(rt, 0)?;
-            say_long(rt, v)
+            say(rt, v)
         }
-        TotalAnswer::Refused(r) => say(rt, r.number as u32),
+        TotalAnswer::Refused(r) => say(rt, r.number),
     }
 }
 
@@ -159,98 +136,69 @@ fn greatest(rt: HostRuntime, n: u8, marks: u16) -> io::Result<()> {
 fn aggregate(rt: HostRuntime, n: u8, marks: u16, process: u8, entries: &[u32]) -> io::Result<()> {
     match go(n, entries, marks) {
         GoAnswer::Go(_) => say(rt, 0)?,
-        GoAnswer::Refused(r) => say(rt, r.number as u32)?,
+        GoAnswer::Refused(r) => say(rt, r.number)?,
     }
     match lead(n, entries, marks) {
         LeadAnswer::Lead {
             process: _,
             portions: _,
         } => say(rt, 0)?,
-        LeadAnswer::Refused(r) => say(rt, r.number as u32)?,
+        LeadAnswer::Refused(r) => say(rt, r.number)?,
     }
     match change(n, entries, marks, process, 4) {
         ChangeAnswer::Difference(_) => say(rt, 0),
-        ChangeAnswer::Refused(r) => say(rt, r.number as u32),
+        ChangeAnswer::Refused(r) => say(rt, r.number),
     }
 }
 
 // A value's word, of 8 bits each.
 fn word(portions: u8, diet: u8) -> u32 {
-    portions as u32 + diet as u32 * 65536
+    u32::from(portions) + u32::from(diet) * 65536
 }
 
 // Three entries, as portions and diet portions; the standing values are 50, 60 and 70.
-fn values(rt: HostRuntime, l: Line) -> io::Result<()> {
-    let v = l.numbers;
-    let n = v[0];
-    let marks = v[1] as u16;
-    let entries = [word(v[3], v[4]), word(v[5], v[6]), word(v[7], v[8])];
-    aggregate(rt, n, marks, v[2], &entries)?;
-    say_total(rt, total(n, &entries, marks, &[50, 60, 70]))
+fn values(rt: HostRuntime, line: Line) -> io::Result<()> {
+    let [n, marks, process, p, p_diet, q, q_diet, r, r_diet, ..] = line.numbers;
+    let entries = [word(p, p_diet), word(q, q_diet), word(r, r_diet)];
+    aggregate(rt, n, u16::from(marks), process, &entries)?;
+    say_total(rt, total(n, &entries, u16::from(marks), &[50, 60, 70]))
 }
 
-fn say_sixteen(rt: HostRuntime, numbers: [u8; 16]) -> io::Result<()> {
-    let mut i = 0;
-    while i < 16 {
-        say(rt, numbers[i] as u32)?;
-        i += 1;
+// The week as two numbers, the high one first, and the bytes of the calendar.
+fn calendar(rt: HostRuntime, asked: u16, bytes: &[u8]) -> io::Result<()> {
+    let a = week(bytes, asked);
+    let found = a.numbering;
+    say(rt, a.answer)?;
+    say(rt, found.n)?;
+    for process in found.process_of {
+        say(rt, process)?;
+    }
+    for site in found.site_of {
+        say(rt, site)?;
     }
     Ok(())
 }
 
-fn of_two(high: u8, low: u8) -> u16 {
-    high as u16 * 256 + low as u16
-}
-
-// The week as two numbers, the high one first, and the bytes of the calendar.
-fn calendar(rt: HostRuntime, l: Line) -> io::Result<()> {
-    let numbers = l.numbers;
-    let asked = of_two(numbers[0], numbers[1]);
-    let bytes = rest(&numbers, l.count);
-    let a = week(rest(bytes, bytes.len()), asked);
-    let found = a.numbering;
-    let processes = found.process_of;
-    let sites = found.site_of;
-    say(rt, a.answer as u32)?;
-    say(rt, found.n as u32)?;
-    say_sixteen(rt, processes)?;
-    say_sixteen(rt, sites)
-}
-
-// The calls that only read, with the line's first three numbers
-fn look(rt: HostRuntime, b: Bench, letter: u8, first: u8, second: u8, third: u8) -> io::Result<()> {
-    match letter {
-        b'p' => process(rt, b, first),
-        b'd' => data(rt, b, first, second as usize),
-        b'i' => list(rt, b),
-        b'c' => carrying(rt, b),
-        b't' => sum(rt, first, second as u16, third as usize),
-        b'g' => greatest(rt, first, second as u16),
-        b'a' => aggregate(rt, first, second as u16, third, &[5, 6, 7]),
+// Makes a line's call, by its first letter, on the bench. Any other letter is no call.
+pub fn answer(rt: HostRuntime, bench: &mut Bench, line: Line) -> io::Result<()> {
+    let [first, second, third, ..] = line.numbers;
+    match line.letter {
+        Some(b'o') => open(rt, bench, first, second),
+        Some(b'r') => records(rt, bench, first, line.after(1)),
+        // Process 2 is put into a round, so that the bench can be damaged.
+        Some(b'f') => {
+            bench.processes[1].round = first;
+            Ok(())
+        }
+        Some(b'p') => process(rt, *bench, first),
+        Some(b'd') => data(rt, *bench, first, usize::from(second)),
+        Some(b'i') => list(rt, *bench),
+        Some(b'c') => carrying(rt, *bench),
+        Some(b't') => sum(rt, first, u16::from(second), usize::from(third)),
+        Some(b'g') => greatest(rt, first, u16::from(second)),
+        Some(b'a') => aggregate(rt, first, u16::from(second), third, &[5, 6, 7]),
+        Some(b'v') => values(rt, line),
+        Some(b'w') => calendar(rt, u16::from_be_bytes([first, second]), line.after(2)),
         _ => Ok(()),
-    }
-}
-
-// Makes a line's call, by its first letter, and gives the bench after it. Any other letter is no call.
-pub fn answer(rt: HostRuntime, b: Bench, l: Line) -> io::Result<Bench> {
-    let letter = l.letter;
-    let first = l.numbers[0];
-    let second = l.numbers[1];
-    match letter {
-        b'o' => open(rt, first, second),
-        b'r' => records(rt, b, l),
-        b'f' => Ok(force(b, first)),
-        b'w' => {
-            calendar(rt, l)?;
-            Ok(b)
-        }
-        b'v' => {
-            values(rt, l)?;
-            Ok(b)
-        }
-        _ => {
-            look(rt, b, letter, first, second, l.numbers[2])?;
-            Ok(b)
-        }
     }
 }

@@ -6,7 +6,7 @@ mod calls;
 mod line;
 
 use crate::calls::answer;
-use crate::line::{Line, fed};
+use crate::line::Line;
 use bench::Bench;
 use reading::read_full;
 use std::io;
@@ -14,27 +14,15 @@ use std::io::Write;
 
 // Each call is made on the bench that the lines before it left.
 fn lines(rt: HostRuntime, text: &[u8]) -> io::Result<()> {
-    let none = Line {
-        letter: 0,
-        numbers: [0; 128],
-        count: 0,
-        inside: false,
-    };
-    let opened = Bench::open(0, 0);
-    let mut b = opened.bench;
-    let mut line = none;
-    let mut i: usize = 0;
-    while i < text.len() {
-        let c = text[i];
-        let next = fed(line, c);
-        line = next;
+    let mut bench = Bench::open(0, 0).bench;
+    let mut line = Line::new();
+    for &c in text {
+        line.feed(c);
         if c == b'\n' {
-            let after = answer(rt, b, next)?;
-            b = after;
-            line = none;
+            answer(rt, &mut bench, line)?;
+            line = Line::new();
         }
         rt.stdout().write_all(&[c])?;
-        i += 1;
     }
     Ok(())
 }

@@ -1,16 +1,16 @@
 -- What the two calls that run a lent bench make of how the run ended is what their contracts say: of a run by its
 -- definition, and of one record since a run of the record in the bytes is the call for it (`step_run`).
-use Rattle.std.specs.Prelude.{◌≡◌, List, ℕ}
+use Rattle.std.specs.Prelude.{◌≡◌, List, ℕ, is_ok, ⊤, Result}
 use Rattle.std.proofs.Math.Path.{refl, ap}
 use Rattle.std.proofs.Common.{◌∙◌}
 use Rattle.process.specs.Steps.{closing_number}
 use Rattle.bench.specs.declared.Bench.{Bench}
-use Rattle.bench.specs.declared.Answer.{Answer}
+use Rattle.refusal.specs.declared.Refusal.{Refusal}
 use Rattle.bench.specs.declared.Counters.{Counters}
 use Rattle.bench.specs.declared.Ended.{Ended}
 use Rattle.bench.specs.declared.Stepped.{Stepped}
 use Rattle.bench.specs.Calls.{step_of, tally_of, run_of, tallied}
-use Rattle.one_record.specs.OneRecord.{record_in, answer_to, stepped_by, is_accepted, crash_byte}
+use Rattle.one_record.specs.OneRecord.{record_in, answer_to, stepped_by, crash_byte}
 use Rattle.one_record.specs.StepLaws.{step_run, tally_step}
 use Rattle.answers.specs.Numbers.{answer_number, cause_number, reached_of, progress_of, host_ran_of, host_stepped_of}
 
@@ -47,4 +47,4 @@ module _ (s : Bench) (l : List ℕ) where
 
   pub step_counters : (c : Counters) → (host_stepped_of (reached_of end) l c).counters ≡ tally_of s l c
   unfolding host_stepped_of reached_of
-  step_counters c = ap (λ (a : Answer). tallied (is_accepted a) (crash_byte l) c) step_answer ∙ tally_step s l c
+  step_counters c = ap (λ (a : Result ⊤ Refusal). tallied (is_ok a) (crash_byte l) c) step_answer ∙ tally_step s l c

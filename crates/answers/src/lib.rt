@@ -10,11 +10,12 @@ ghost use Rattle.bench.specs.TransitList.{list_of, listed_in};
 ghost use Rattle.answers.specs.Numbers.{answer_number, cause_number, shown_number, listed_number};
 ghost use Rattle.answers.specs.Numbers.{host_opened_of, reached_of, host_ran_of, host_stepped_of};
 
-use bench::{Answer, Bench, Cause, Counters, Ended, Listed, Shown};
+use bench::{Bench, Cause, Counters, Ended};
 use carry::carry;
 use decision::global_data;
 use one_record::{answer_to, tally_after};
 use process::Closing;
+use refusal::Refusal;
 use transit::in_transit;
 
 // What opening gives a host.
@@ -47,7 +48,7 @@ pub struct Progress {
 pub struct Reached {
     pub accepted: u32,
     pub cause: Cause,
-    pub closing: Closing,
+    pub closing: Option<Closing>,
     pub taken: usize,
 }
 
@@ -58,12 +59,12 @@ pub struct HostRan {
     pub number: u32,
 }
 
-fn answer_number(a: Answer) -> u32
+fn answer_number(a: Result<(), Refusal>) -> u32
     ensures { result ≡ answer_number a }
 {
     match a {
-        Answer::Accepted => 0,
-        Answer::Refused(r) => r.number as u32,
+        Ok(()) => 0,
+        Err(r) => r.number() as u32,
     }
 }
 
@@ -73,36 +74,37 @@ fn cause_number(c: Cause) -> u32
     match c {
         Cause::Empty => 0,
         Cause::Spent => 1,
-        Cause::Refused(r) => 16 + r.number as u32,
+        Cause::Refused(r) => 16 + r.number() as u32,
     }
 }
 
-fn closing_number(c: Closing) -> u8
+#[tactic(auto, unfolding(process::specs::Steps::closing_number))]
+fn closing_number(c: Option<Closing>) -> u8
     ensures { result ≡ closing_number c }
 {
     match c {
-        Closing::None => 0,
-        Closing::NextRound => 1,
-        Closing::Agreed => 2,
-        Closing::LastRound => 3,
+        None => 0,
+        Some(Closing::NextRound) => 1,
+        Some(Closing::Agreed) => 2,
+        Some(Closing::LastRound) => 3,
     }
 }
 
-fn shown_number(a: Shown) -> u64
+fn shown_number(a: Result<u16, Refusal>) -> u64
     ensures { result ≡ shown_number a }
 {
     match a {
-        Shown::Marks(m) => m as u64,
-        Shown::Refused(r) => (r.number as u64) * 4294967296,
+        Ok(m) => m as u64,
+        Err(r) => (r.number() as u64) * 4294967296,
     }
 }
 
-fn listed_number(a: Listed) -> u64
+fn listed_number(a: Result<usize, Refusal>) -> u64
     ensures { result ≡ listed_number a }
 {
     match a {
-        Listed::Count(k) => k as u64,
-        Listed::Refused(r) => (r.number as u64) * 4294967296,
+        Ok(k) => k as u64,
+        Err(refusal) => (refusal.number() as u64) * 4294967296,
     }
 }
 
@@ -110,16 +112,11 @@ fn listed_number(a: Listed) -> u64
 pub fn open_by(b: Bench, n: u8, t: u8) -> HostOpened
     ensures { result ≡ host_opened_of b n t }
 {
-    let o = Bench::open(n, t);
-    let answer = o.answer;
-    match answer {
-        Answer::Accepted => {
-            let bench = o.bench;
-            HostOpened { bench, number: 0 }
-        }
-        Answer::Refused(r) => HostOpened {
+    match Bench::open(n, t) {
+        Ok(bench) => HostOpened { bench, number: 0 },
+        Err(r) => HostOpened {
             bench: b,
-            number: r.number as u32,
+            number: r.number() as u32,
         },
     }
 }

@@ -4,9 +4,10 @@ ghost use Rattle.bench.specs.State.{opened_of};
 ghost use Rattle.bench.specs.Sound.{opens};
 ghost use Rattle.bench.specs.Calls.{open_of};
 
-use crate::{Answer, Bench, Opened, Refusal};
+use crate::Bench;
 use global_data::GlobalData;
 use process::Process;
+use refusal::Refusal;
 
 // n is 1 to 16, and t below n.
 pub fn sizes_open(n: u8, t: u8) -> bool
@@ -43,20 +44,14 @@ impl Bench {
         }
     }
 
-    // A bench of n processes of which t may crash. Refused, the bench is all zero.
-    pub fn open(n: u8, t: u8) -> Opened
+    // A bench of n processes of which t may crash.
+    pub fn open(n: u8, t: u8) -> Result<Bench, Refusal>
         ensures { result ≡ open_of n t }
     {
         if sizes_open(n, t) {
-            Opened {
-                answer: Answer::Accepted,
-                bench: Bench::fresh(n, t),
-            }
+            Ok(Bench::fresh(n, t))
         } else {
-            Opened {
-                answer: Answer::Refused(Refusal { number: 1 }),
-                bench: Bench::fresh(0, 0),
-            }
+            Err(Refusal::Size)
         }
     }
 }

@@ -5,31 +5,30 @@
 mod calls;
 mod line;
 
-use crate::calls::answer;
+use crate::calls::{answer, closed};
 use crate::line::Line;
-use bench::Bench;
 use reading::read_full;
 use std::io;
 use std::io::Write;
 
 // Each call is made on the bench that the lines before it left.
-fn lines(rt: HostRuntime, text: &[u8]) -> io::Result<()> {
-    let mut bench = Bench::open(0, 0).bench;
+fn lines(rt: &impl Print, text: &[u8]) -> io::Result<()> {
+    let mut bench = closed();
     let mut line = Line::new();
     for &c in text {
         line.feed(c);
         if c == b'\n' {
-            answer(rt, &mut bench, line)?;
+            answer(rt, &mut bench, &line)?;
             line = Line::new();
         }
-        rt.stdout().write_all(&[c])?;
+        io::writer(rt).write_all(&[c])?;
     }
     Ok(())
 }
 
 // The table is shorter than the buffer.
 fn main(rt: HostRuntime) -> io::Result<()> {
-    let mut text = [0u8; 16384];
+    let mut text = [0; 16384];
     let read = read_full(&mut rt.stdin(), &mut text)?;
-    lines(rt, &text[..read])
+    lines(&rt, &text[..read])
 }

@@ -6,8 +6,9 @@ ghost use Rattle.sets.specs.Lists.{each};
 ghost use Rattle.sets.specs.Truth.{select};
 ghost use Rattle.bench.specs.Calls.{word_at, show_of, shown_in};
 
-use bench::{Bench, Refusal, Shown};
+use bench::Bench;
 use global_data::GlobalData;
+use refusal::Refusal;
 use sets::one_to;
 use soundness::is_sound;
 
@@ -33,26 +34,26 @@ fn put_entries(out: &mut [u32], n: u8, g: GlobalData)
 
 // Writes what process `process`, from 1, has decided on, and gives its present marks.
 // Nothing is written where it refuses.
-pub fn global_data(b: Bench, process: u8, out: &mut [u32]) -> Shown
+pub fn global_data(b: Bench, process: u8, out: &mut [u32]) -> Result<u16, Refusal>
     ensures value { result ≡ show_of b process out.old }
     ensures out_after { out.new ≡ shown_in b process out.old }
 {
     if !is_sound(b) {
-        return Shown::Refused(Refusal { number: 2 });
+        return Err(Refusal::Damaged);
     }
     let n = b.n;
     if !one_to(n, process) {
-        return Shown::Refused(Refusal { number: 5 });
+        return Err(Refusal::Field);
     }
     if out.len() < n as usize {
-        return Shown::Refused(Refusal { number: 10 });
+        return Err(Refusal::Slice);
     }
     let at = (process - 1) as usize;
     let p = b.processes[at];
     if !p.has_decided() {
-        return Shown::Refused(Refusal { number: 11 });
+        return Err(Refusal::Undecided);
     }
     let g = p.estimate;
     put_entries(out, n, g);
-    Shown::Marks(g.present)
+    Ok(g.present)
 }

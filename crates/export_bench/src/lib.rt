@@ -20,7 +20,7 @@ use run::run_bytes;
 // Opens a bench of n processes of which t may crash. Refused, b stays.
 #[unsafe(no_mangle)]
 pub extern "C" fn gerzulan_bench_open(b: &mut Bench, n: u8, t: u8) -> u32
-    ensures { (result ≡ answer_number (open_of n t).answer) × (b.new ≡ opened_in b.old (open_of n t)) }
+    ensures { (result ≡ answer_number (open_of n t)) × (b.new ≡ opened_in b.old (open_of n t)) }
 {
     let r = open_by(*b, n, t);
     *b = r.bench;

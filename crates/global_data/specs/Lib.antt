@@ -1,2 +1,3 @@
 pub mod GlobalData
 pub mod WordLaws
+pub mod Rows

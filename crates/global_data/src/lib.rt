@@ -2,18 +2,21 @@
 // bit is clear, and 0 is a value.
 #![tactic(auto)]
 
-ghost use Rattle.std.specs.Prelude.{◌≡◌, true, ◌<◌, ◌≤◌, length};
+ghost use Rattle.std.specs.Prelude.{◌≡◌, true, ℕ, ◌<◌, ◌≤◌, length};
 ghost use Rattle.sets.specs.Truth.{same, select};
-ghost use Rattle.global_data.specs.declared.Entry.{Entry};
 ghost use Rattle.global_data.specs.GlobalData.{portions_of, diet_of, value_in, diet_fits};
-ghost use Rattle.global_data.specs.GlobalData.{nothing_of, one_of, fill_of, same_to};
+ghost use Rattle.global_data.specs.GlobalData.{nothing_of, one_of, fill_of, same_to, fill_from, all_same};
+ghost use Rattle.global_data.specs.Rows.{Gives};
 
-// An entry: document 01's blank, or a value: portions, and the diet portions among them.
+// A value: portions, and the diet portions among them.
 #[derive(Clone, Copy)]
-pub enum Entry {
-    Absent,
-    Value { portions: u16, diet: u16 },
+pub struct Value {
+    pub portions: u16,
+    pub diet: u16,
 }
+
+// An entry: document 01's blank, or a value.
+pub type Entry = Option<Value>;
 
 // The word of a present entry has its portions in the low half and its diet portions in the high half.
 #[repr(C)]
@@ -21,6 +24,13 @@ pub enum Entry {
 pub struct GlobalData {
     pub present: u16,
     pub values: [u32; 16],
+}
+
+// What one pass over rows gives: the global data filled from them, and whether each is the same as it before.
+#[derive(Clone, Copy)]
+pub struct Passed {
+    pub filled: GlobalData,
+    pub alike: bool,
 }
 
 // The portions in a word.
@@ -37,13 +47,15 @@ pub fn diet(word: u32) -> u16
     (word / 65536) as u16
 }
 
-// The value in a word.
-pub fn value_in(word: u32) -> Entry
-    ensures { result ≡ value_in word }
-{
-    Entry::Value {
-        portions: portions(word),
-        diet: diet(word),
+impl From<u32> for Value {
+    ghost from_gives = { λ word v. v ≡ value_in word };
+
+    // The value in a word.
+    fn from(word: u32) -> Value {
+        Value {
+            portions: portions(word),
+            diet: diet(word),
+        }
     }
 }
 
@@ -51,10 +63,7 @@ pub fn value_in(word: u32) -> Entry
 pub fn diet_fits(entry: Entry) -> bool
     ensures { result ≡ diet_fits entry }
 {
-    match entry {
-        Entry::Absent => true,
-        Entry::Value { portions, diet } => diet <= portions,
-    }
+    entry.is_none_or(|v| v.diet <= v.portions)
 }
 
 impl GlobalData {
@@ -92,10 +101,8 @@ impl GlobalData {
             return false;
         }
         let mut ok = true;
-        let mut k = 0;
-        while k < 16 {
+        for k in 0..16 {
             ok = same_where(sets::member(marks, k), self.values[k], other.values[k]) & ok;
-            k += 1;
         }
         ok
     }
@@ -116,12 +123,33 @@ pub fn fill_words(values: &mut [u32; 16], marks: u16, row: GlobalData) -> u16
     ensures { fill_of (record { present = marks; values = values.old }) row
         ≡ record { present = result; values = values.new } }
 {
-    let words = row.values;
-    let mut left = sets::difference(row.present, marks);
-    while left != 0 {
-        let k = sets::lowest(left);
-        values[k] = words[k];
-        left = sets::rest(left);
+    for k in sets::members(sets::difference(row.present, marks)) {
+        values[k] = row.values[k];
     }
     sets::union(marks, row.present)
+}
+
+// One pass over the rows of the members of a set, the lowest first: each absent entry takes theirs, and they are
+// compared in the entries below n. `row` gives the row of a process where it lies.
+pub fn pass<F: Fn(usize) -> GlobalData>(old: GlobalData, members: u16, n: usize, row: F) -> Passed
+    requires n_bound { n ≤ 16 }
+    requires rows { (y : ℕ) → y < 16 → F.pre row y }
+    ensures { (rows : ℕ → GlobalData) → Gives (F.post row) rows
+        → (result.filled ≡ fill_from 16 members rows old) × (result.alike ≡ all_same 16 n members rows old) }
+{
+    let mut values = old.values;
+    // the words and the marks are apart, so that the marks are stored once
+    let mut present = old.present;
+    let mut alike = true;
+    for y in sets::members(members) {
+        let given = row(y);
+        present = fill_words(&mut values, present, given);
+        if alike {
+            alike = given.same(old, n);
+        }
+    }
+    Passed {
+        filled: GlobalData { present, values },
+        alike,
+    }
 }

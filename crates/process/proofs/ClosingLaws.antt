@@ -9,7 +9,7 @@ use Rattle.sets.specs.Set.{remove_of}
 use Rattle.sets.specs.Truth.{◌and◌, same, select}
 use Rattle.sets.specs.TruthLaws.{Is, on, off, is, not_on, not_off, select_on, select_off, same_mk}
 use Rattle.global_data.specs.declared.GlobalData.{GlobalData}
-use Rattle.global_data.specs.GlobalData.{all_same}
+use Rattle.global_data.specs.GlobalData.{fill_from, all_same}
 use Rattle.global_data.proofs.PassLaws.{one_pass, Passing, passing_done}
 use Rattle.process.specs.declared.Process.{Process}
 use Rattle.process.specs.declared.Closing.{Closing}
@@ -45,21 +45,28 @@ module _ (n t a : ℕ) (rows : ℕ → GlobalData) (p : Process) where
       (λ d. rw (← closing_once few, select_off _ _ _ (not_on _ d)))
       (λ d. rw (← closing_once few, select_on _ _ _ (not_off _ d)))
 
-  -- once the pass over the peers' rows is made: q and x are what the code makes of it but for the estimate
-  module _ (next seen : ℕ) (g : GlobalData) (alike : Bool) (q : Process) (x : Closing) (f : next ≡ next_of a p)
-      (w : Passing n (remove_of next a) rows p.estimate seen 0 g alike) where
-    passed : (g ≡ filled_of a rows p) × (alike ≡ all_same 16 n (peers_of a p) rows p.estimate)
-    unfolding filled_of peers_of
-    passed =
-        let d = passing_done n (remove_of next a) rows p.estimate seen 0 g alike w refl in
-        (rw f at d.0, rw f at d.1)
-
-    pub close_passed : n ≤ 16 → (q ≡ finish_of n t a next alike p) × (x ≡ closing_by t next alike p)
+  -- once the pass over the peers' rows is made: g and alike are what it gives, q and x what the code makes of it but for
+  -- the estimate
+  module _ (next : ℕ) (g : GlobalData) (alike : Bool) (q : Process) (x : Closing) (f : next ≡ next_of a p) where
+    pub close_made : (g ≡ fill_from 16 (remove_of next a) rows p.estimate)
+        × (alike ≡ all_same 16 n (remove_of next a) rows p.estimate) → n ≤ 16
+        → (q ≡ finish_of n t a next alike p) × (x ≡ closing_by t next alike p)
         → (with_estimate g q ≡ close_of n t a rows p) × (x ≡ closing_of n t a rows p)
-    close_passed few k = (
-      rw (k.0, passed.0, f, passed.1) (sym (finish_close few)),
-      k.1 ∙ rw (f, passed.1) (sym (closing_once few)),
-    )
+    unfolding filled_of peers_of
+    close_made d few k =
+        let u : alike ≡ all_same 16 n (peers_of a p) rows p.estimate = rw f at d.1 in
+        let v : g ≡ filled_of a rows p = rw f at d.0 in (
+          rw (k.0, v, f, u) (sym (finish_close few)),
+          k.1 ∙ rw (f, u) (sym (closing_once few)),
+        )
+
+  -- the same by the invariant of a pass that goes process by process
+  pub close_passed : (next seen : ℕ) (g : GlobalData) (alike : Bool) (q : Process) (x : Closing) → next ≡ next_of a p
+      → Passing n (remove_of next a) rows p.estimate seen 0 g alike → n ≤ 16
+      → (q ≡ finish_of n t a next alike p) × (x ≡ closing_by t next alike p)
+      → (with_estimate g q ≡ close_of n t a rows p) × (x ≡ closing_of n t a rows p)
+  close_passed next seen g alike q x f w =
+      close_made next g alike q x f (passing_done n (remove_of next a) rows p.estimate seen 0 g alike w refl)
 
   pub closing_last : p.round ≡ t + 1 → closing_of n t a rows p ≡ LastRound
   unfolding closing_of

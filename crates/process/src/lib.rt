@@ -2,7 +2,9 @@
 // on it.
 #![tactic(auto)]
 
-ghost use Rattle.std.specs.Prelude.{◌≡◌, ◌<◌, ◌≤◌, length};
+ghost use Rattle.std.specs.Prelude.{◌≡◌, ℕ, ◌<◌, ◌≤◌, length};
+ghost use Rattle.global_data.specs.Rows.{Gives};
+ghost use Rattle.global_data.specs.declared.GlobalData.{GlobalData};
 ghost use Rattle.global_data.specs.GlobalData.{rows_of};
 ghost use Rattle.process.specs.Steps.{idle_of, has_decided, takes_part, open_round_of, start_of, keeps, receive_of};
 ghost use Rattle.process.specs.Steps.{arrived_of, due_of, next_of, closing_of, opens_next, owed_of};
@@ -12,7 +14,7 @@ ghost use Rattle.process.specs.Laws.{words_with};
 ghost use Rattle.sets.specs.Truth.{select};
 ghost use Rattle.sets.specs.Set.{insert_of};
 
-use global_data::{GlobalData, fill_words};
+use global_data::{GlobalData, pass};
 
 // Document 01's terminal. Sets are bits, process i at bit i from 0.
 #[repr(C)]
@@ -36,10 +38,8 @@ pub struct Process {
 }
 
 // How a round ended (request C-11).
-#[derive(Clone, Copy)]
+#[derive(Clone, Copy, Debug, PartialEq, Eq)]
 pub enum Closing {
-    // there was no close
-    None,
     // the next round is open
     NextRound,
     // decided: the sets and the estimates agree
@@ -60,12 +60,7 @@ impl Closing {
     fn opens_next(self) -> bool
         ensures { result ≡ opens_next self }
     {
-        match self {
-            Closing::None => false,
-            Closing::NextRound => true,
-            Closing::Agreed => false,
-            Closing::LastRound => false,
-        }
+        matches!(self, Closing::NextRound)
     }
 }
 
@@ -263,9 +258,30 @@ impl Process {
         Closed { process, closing }
     }
 
-    // Steps 4 and 5: it closes its round, where `rows` has what each process sent in it. run, which has the rows where
-    // they lie, makes the same pass there. This has no caller yet: the node (what one site itself runs), which comes
-    // later, is its caller.
+    // Steps 4 and 5: it closes its round, where `row` gives what each process sent in it. One pass over what the others
+    // of the next set sent fills the estimate and finds whether all are alike.
+    pub fn close_by<F: Fn(usize) -> GlobalData>(
+        self,
+        n: usize,
+        t: usize,
+        a: usize,
+        row: F,
+    ) -> Closed
+        requires n_bound { (n ≤ 16) × (t < 16) }
+        requires a_bound { a < 16 }
+        requires le_round { (1 ≤ self.round) × (self.round ≤ 16) }
+        requires rows { (y : ℕ) → y < 16 → F.pre row y }
+        ensures { (rows : ℕ → GlobalData) → Gives (F.post row) rows
+            → (result.process ≡ close_of n t a rows self) × (result.closing ≡ closing_of n t a rows self) }
+    {
+        let next = self.next(a);
+        let passed = pass(self.estimate, sets::remove(next, a), n, row);
+        let mut c = self.finish(n, t, a, next, passed.alike);
+        c.process.estimate = passed.filled;
+        c
+    }
+
+    // The same, where `rows` has what each process sent.
     pub fn close(self, n: usize, t: usize, a: usize, rows: [GlobalData; 16]) -> Closed
         requires n_bound { (n ≤ 16) × (t < 16) }
         requires a_bound { a < 16 }
@@ -273,30 +289,7 @@ impl Process {
         ensures { (result.process ≡ close_of n t a (rows_of rows) self)
             × (result.closing ≡ closing_of n t a (rows_of rows) self) }
     {
-        let next = self.next(a);
-        let old = self.old_estimate();
-        let mut g = old;
-        let mut alike = true;
-        let mut left = sets::remove(next, a);
-        let mut y = 0;
-        while left != 0 {
-            if left % 2 == 1 {
-                let row = rows[y];
-                let marks = g.present;
-                let more = fill_words(&mut g.values, marks, row);
-                g.present = more;
-                if alike {
-                    alike = row.same(old, n);
-                }
-            }
-            left = left / 2;
-            y += 1;
-        }
-        let c = self.finish(n, t, a, next, alike);
-        let mut process = c.process;
-        let closing = c.closing;
-        process.estimate = g;
-        Closed { process, closing }
+        self.close_by(n, t, a, |y| rows[y])
     }
 
     // Whom it owes a decision: all but itself and those it suspects.

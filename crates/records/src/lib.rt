@@ -1,14 +1,15 @@
 // A record's 8 bytes, decoded: kind, a, b, r, then a value, low byte first; refusals 3, 4, 5 and 15.
 #![tactic(auto)]
 
-ghost use Rattle.std.specs.Prelude.{◌≡◌, true, not, ◌+◌, ◌-◌};
+ghost use Rattle.std.specs.Prelude.{◌≡◌, true, not, Some, ◌+◌, ◌-◌};
 ghost use Rattle.bench.specs.Record.{word_of, uses_b};
 ghost use Rattle.bench.specs.Record.{fields, message_from, event_of, parts_of, check_diet, decode_of};
 ghost use Rattle.global_data.specs.GlobalData.{value_in, diet_fits};
 ghost use Rattle.sets.specs.Truth.{◌and◌, ◌or◌, same, less, one_to, select};
 
-use bench::{Decoded, Event, Message, Refusal};
-use global_data::{diet_fits, value_in};
+use bench::{Event, Message};
+use global_data::{Value, diet_fits};
+use refusal::Refusal;
 
 fn word(a: u8, b: u8, c: u8, d: u8) -> u32
     ensures { result ≡ word_of a b c d }
@@ -96,27 +97,27 @@ fn event(kind: u8, a: usize, b: usize, r: u8, v: u32) -> Event
 
 // The diet portions do not exceed the portions, where the record is a start.
 fn diet_ok(kind: u8, v: u32) -> bool
-    ensures { result ≡ (not (same kind 1) or diet_fits (value_in v)) }
+    ensures { result ≡ (not (same kind 1) or diet_fits (Some (value_in v))) }
 {
-    (kind != 1) | diet_fits(value_in(v))
+    (kind != 1) | diet_fits(Some(Value::from(v)))
 }
 
 // A record of a kind 1 to 6.
-fn known(n: u8, t: u8, kind: u8, a: u8, b: u8, r: u8, v: u32) -> Decoded
+fn known(n: u8, t: u8, kind: u8, a: u8, b: u8, r: u8, v: u32) -> Result<Event, Refusal>
     requires { one_to 6 kind ≡ true }
     ensures { result ≡ check_diet (parts_of n t kind a b r v) }
 {
     if !fields_ok(n, t, kind, a, b, r, v) {
-        return Decoded::Refused(Refusal { number: 5 });
+        return Err(Refusal::Field);
     }
     if !diet_ok(kind, v) {
-        return Decoded::Refused(Refusal { number: 15 });
+        return Err(Refusal::Diet);
     }
-    Decoded::Got(event(kind, from_zero(a), from_zero(b), r, v))
+    Ok(event(kind, from_zero(a), from_zero(b), r, v))
 }
 
 // By kind first, so that the compiler makes of each kind its own few tests.
-fn parts(n: u8, t: u8, kind: u8, a: u8, b: u8, r: u8, v: u32) -> Decoded
+fn parts(n: u8, t: u8, kind: u8, a: u8, b: u8, r: u8, v: u32) -> Result<Event, Refusal>
     ensures { result ≡ check_diet (parts_of n t kind a b r v) }
 {
     match kind {
@@ -126,16 +127,16 @@ fn parts(n: u8, t: u8, kind: u8, a: u8, b: u8, r: u8, v: u32) -> Decoded
         4 => known(n, t, 4, a, b, r, v),
         5 => known(n, t, 5, a, b, r, v),
         6 => known(n, t, 6, a, b, r, v),
-        _ => Decoded::Refused(Refusal { number: 4 }),
+        _ => Err(Refusal::Kind),
     }
 }
 
 // Any bytes, for a bench of n processes and crash limit t.
-pub fn decode(n: u8, t: u8, bytes: &[u8]) -> Decoded
+pub fn decode(n: u8, t: u8, bytes: &[u8]) -> Result<Event, Refusal>
     ensures { result ≡ decode_of n t bytes.now }
 {
     if bytes.len() != 8 {
-        return Decoded::Refused(Refusal { number: 3 });
+        return Err(Refusal::Length);
     }
     let v = word(bytes[4], bytes[5], bytes[6], bytes[7]);
     parts(n, t, bytes[0], bytes[1], bytes[2], bytes[3], v)

@@ -7,7 +7,9 @@ use Rattle.std.proofs.Math.Bool.{Bool-discrete}
 use Rattle.std.proofs.Math.Nat.{div_self, div-eq_of_lt}
 use Rattle.std.proofs.Math.Arith.{lt-one, digits_div, digits_mod, bin_ind}
 use Rattle.std.specs.Int.Bits.{bit_and, bit_or, bit_xor, differ, and_step, or_step, xor_step, or_add_and, xor_add_and}
+use Rattle.std.specs.Int.Bits.{and_self}
 use Rattle.std.proofs.lemmas.Nat.{and_shr, or_shr, xor_shr, and_le_l, and_le_r, or_lt, xor_lt, ones_cat, ones-le}
+use Rattle.std.proofs.lemmas.Nat.{and_comm, and_assoc, and-not}
 use Rattle.std.specs.Int.Count.{ones, ones_step, ones-ones}
 use Rattle.std.proofs.Math.Pow.{pow-lt, ones_split, ones_lt, high}
 use Rattle.sets.specs.Truth.{◌and◌, ◌or◌, same, less, bit}
@@ -230,6 +232,19 @@ members_low n m hm h = rw e (omega (arith, and_le_r m (all_of n), all_lt n))
         (λ i l.
         part i (is (has m i)) l ∙ sym (has_intersection m (all_of n) i
         ∙ ap (λ (b : Bool). has m i and b) (has_all n i)))
+
+-- ---- the difference as the code makes it: a, and the digits that b lacks
+pub and_not : (a b : ℕ) → a < 2 ^ 16 → b < 2 ^ 16 → bit_and a (65535 - b) ≡ difference_of a b
+unfolding difference_of
+and_not a b ha hb =
+    omega (
+      arith,
+      and_comm a (65535 - b),
+      and-not 16 b a hb ha,
+      and_comm b a,
+      xor_add_and a (bit_and a b),
+      sym (and_assoc b a a) ∙ ap (λ (x : ℕ). bit_and x b) (and_self a),
+    )
 
 -- ---- sizes
 pub size_empty : size_of 0 ≡ 0

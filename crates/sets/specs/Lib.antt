@@ -9,3 +9,4 @@ pub mod SumLaws
 pub mod Tests
 pub mod Truth
 pub mod TruthLaws
+pub mod MembersLaws

@@ -1,6 +1,7 @@
 -- Sets of processes (document 01: sets of terminals, and present marks): bit i of a 16-bit number says whether
 -- process i, counted from 0, is in.
-use Rattle.std.specs.Prelude.{Bool, ℕ, ◌-◌, ◌/◌, ◌%◌, ◌^◌}
+use Rattle.std.specs.Prelude.{Bool, List, ℕ, ◌-◌, ◌/◌, ◌%◌, ◌^◌}
+use Rattle.std.specs.List.{filter, range_with_len}
 use Rattle.std.specs.Int.Bits.{bit_and, bit_or, bit_xor}
 use Rattle.std.specs.Int.Count.{ones, count_trailing_zeros}
 use Rattle.sets.specs.Truth.{same, less}
@@ -35,6 +36,10 @@ empty_set = 0
 -- the lowest member: as many digits below it are 0
 unfoldable pub lowest_of : ℕ → ℕ
 lowest_of m = count_trailing_zeros 16 m
+
+-- the members in rising order
+unfoldable pub members_of : ℕ → List ℕ
+members_of m = filter (has m) (range_with_len 0 16)
 
 -- how many members
 unfoldable pub size_of : ℕ → ℕ

@@ -1,7 +1,7 @@
 -- Laws of the lines: records taken by runs give the lines of the records one by one.
 -- A run's accepted records have the answer 0, the one that it refuses has the cause's number and leaves the bench as
 -- it is, and the next run begins after it.
-use Rattle.std.specs.Prelude.{◌≡◌, ◌≢◌, true}
+use Rattle.std.specs.Prelude.{◌≡◌, ◌≢◌, true, Option, None}
 use Rattle.std.proofs.Math.Path.{refl, sym, ap}
 use Rattle.std.proofs.Common.{ap₂, ◌∙◌, ◌^◌, add-zero, drop-drop}
 use Rattle.std.specs.Prelude.{Option}
@@ -15,16 +15,16 @@ use Rattle.std.proofs.Math.Seq.{drop_at, take_all}
 use Rattle.std.proofs.lemmas.List.{take-append-le, drop-append-le}
 use Rattle.sets.specs.TruthLaws.{Is, on, off, is}
 use Rattle.process.specs.declared.Closing.{Closing}
-use Rattle.process.specs.declared.Closing.TheVariants.{None}
+use Rattle.refusal.specs.declared.Refusal.{Refusal}
+use Rattle.refusal.specs.Numbers.{refusal_number}
 use Rattle.bench.specs.declared.Bench.{Bench}
 use Rattle.bench.specs.declared.Ended.{Ended}
-use Rattle.bench.specs.declared.Refusal.{Refusal}
 use Rattle.bench.specs.declared.Cause.{Cause}
 use Rattle.bench.specs.declared.Cause.TheVariants.{Empty, Spent, Refused}
 use Rattle.bench.specs.Sound.{sound_of}
 use Rattle.bench.specs.Refuse.{refusal}
 use Rattle.bench.proofs.RefuseLaws.{refusal_damaged, refused-keeps}
-use Rattle.bench.specs.Calls.{refused, run_of, after_record}
+use Rattle.bench.specs.Calls.{run_of, after_record}
 use Rattle.bench.specs.RunLoop.{ended_of, run_from}
 use Rattle.sets.specs.Lists.{joined}
 use Rattle.bench.specs.Record.{v2}
@@ -101,7 +101,7 @@ run_some budget l s h b = go (is (sound_of s))
 unfoldable pub cause_text : ℕ → Cause → List ℕ
 cause_text k Empty = []
 cause_text k Spent = []
-cause_text k (Refused r) = line_of k r.number
+cause_text k (Refused r) = line_of k (refusal_number r)
 
 unfoldable pub refused_in : Cause → ℕ
 refused_in Empty = 0
@@ -146,7 +146,7 @@ module _ (b : Bench) (first : ℕ) (l : List ℕ) (i : ℕ) where
       line j z = let e : first + (i + j) ≡ first + i + j = omega arith in rw (z, e)
 
   -- no record is refused after them
-  module _ (k t : ℕ) (x : Closing)
+  module _ (k t : ℕ) (x : Option Closing)
       (h : (j : ℕ) → j < k → refusal (steps j (steps i b l) (rest_at i l)) (record_at j (rest_at i l)) ≡ 0)
       (w : 8 * k ≤ length (rest_at i l)) (m : i < records_in l) where
     taken_all : (c : Cause) → refused_in c ≡ 0 → ((n : ℕ) → cause_text n c ≡ []) → 1 ≤ k
@@ -165,9 +165,10 @@ module _ (b : Bench) (first : ℕ) (l : List ℕ) (i : ℕ) where
         }
 
     -- the next one is
-    taken_refused : (r : ℕ) → length (rest_at k (rest_at i l)) ≢ 0
-        → refusal (steps k (steps i b l) (rest_at i l)) (take 8 (rest_at k (rest_at i l))) ≡ r → r ≢ 0
-        → Taken b first l i (ended_of (steps k (steps i b l) (rest_at i l)) k (Refused (refused r)) x t)
+    taken_refused : (r : Refusal) → length (rest_at k (rest_at i l)) ≢ 0
+        → refusal (steps k (steps i b l) (rest_at i l)) (take 8 (rest_at k (rest_at i l))) ≡ refusal_number r
+        → refusal_number r ≢ 0
+        → Taken b first l i (ended_of (steps k (steps i b l) (rest_at i l)) k (Refused r) x t)
     unfolding ended_of records_in refused_in cause_text joined line_at record_at steps
     taken_refused r g e z =
         let y : i + (k + 1) ≡ suc (i + k) = omega arith in
@@ -180,7 +181,7 @@ module _ (b : Bench) (first : ℕ) (l : List ℕ) (i : ℕ) where
           state = sym (steps-add i (k + 1) b l ∙ steps-add k 1 (steps i b l) (rest_at i l) ∙ keeps);
           text =
               rw (y, answer_add i k b l, e, p, accepted_lines k h)
-              (append_assoc (joined i (line_at b first l)) (accepted_text (first + i) k) (line_of (first + i + k) r));
+              (append_assoc (joined i (line_at b first l)) (accepted_text (first + i) k) (line_of (first + i + k) (refusal_number r)));
         }
 
   -- what a run gives from there
@@ -203,7 +204,7 @@ module _ (b : Bench) (first : ℕ) (l : List ℕ) (i : ℕ) where
       go some w Spent y =
           taken_all w.k _ _ w.each_accepted w.within_bytes m Spent refl (λ n. refl) (omega arith)
       go some w (Refused r) y =
-          taken_refused w.k _ _ w.each_accepted w.within_bytes m r.number y.0 y.2 y.3
+          taken_refused w.k _ _ w.each_accepted w.within_bytes m r y.0 y.2 y.3
 
   -- the same, as the code takes the rest of the records
   pub taken_part : (budget : ℕ) (s : Bench) (e : Ended) → 0 < budget → i < records_in l → s ≡ steps i b l

@@ -1,6 +1,6 @@
 -- Laws of the output: what is read as an opening record and then as records, and written line by line, is the whole
 -- output of what the reader had. Readers and writers show their bytes where they know them.
-use Rattle.std.specs.Prelude.{◌≡◌, List, [], ◌++◌, ℕ, ◌^◌, ◌≤◌, ◌<◌, Option, None, Some, IfSome, length, take, drop}
+use Rattle.std.specs.Prelude.{◌≡◌, List, [], ◌++◌, ℕ, ◌^◌, ◌≤◌, ◌<◌, Option, None, Some, Ok, Err, IfSome, length, take, drop}
 use Rattle.std.specs.Io.KnownBytes.{Consumes, Appends, IsAtEnd}
 use Rattle.std.proofs.Common.{ap, ◌∙◌, ⊎_elim, arith, append-nil, length-append}
 use Rattle.std.proofs.KnownBytes.{Appends-trans}
@@ -8,8 +8,8 @@ use Rattle.std.proofs.Math.Seq.{drop_at, take_all}
 use Rattle.std.proofs.lemmas.List.{take-append-le, drop_all}
 use Rattle.sets.specs.TruthLaws.{le-or}
 use Rattle.bench.specs.declared.Bench.{Bench}
-use Rattle.bench.specs.declared.Answer.TheVariants.{Accepted, Refused}
-use Rattle.bench.specs.declared.Refusal.{Refusal}
+use Rattle.refusal.specs.declared.Refusal.{Refusal}
+use Rattle.refusal.specs.Numbers.{refusal_number}
 use Rattle.text.specs.Text.{line_of, processes_text}
 use Rattle.simulate.specs.Output.{opening_of, written_after, output_of}
 use Rattle.simulate.specs.LinesLaws.{Answered}
@@ -37,22 +37,22 @@ given_all (Some left) rest bytes c end h =
 -- what the opening record was read from
 module _ (first : List ℕ) (h : length first ≤ 8) where
   pub output_refused : (before mid held written : Option (List ℕ)) (r : Refusal) → Consumes before mid first
-      → (length first < 8 → IsAtEnd mid) → (opening_of first).answer ≡ Refused r
-      → Appends held written (line_of 0 r.number)
+      → (length first < 8 → IsAtEnd mid) → opening_of first ≡ Err r
+      → Appends held written (line_of 0 (refusal_number r))
       → IfSome before (λ bytes. length bytes < 2 ^ 66 → Appends held written (output_of bytes))
   unfolding output_of written_after
   output_refused None mid held written r read end a w = tt
   output_refused (Some xs) None held written r read end a w = absurd read
   output_refused (Some xs) (Some rest) held written r read end a w = λ few. rw (read, front first rest h end, a) w
 
-  pub output_opened : (before mid after held lined written : Option (List ℕ)) (s : Bench) → Consumes before mid first
-      → (length first < 8 → IsAtEnd mid) → (opening_of first).answer ≡ Accepted
-      → Answered (opening_of first).bench s mid after held lined → Appends lined written (processes_text s)
+  pub output_opened : (before mid after held lined written : Option (List ℕ)) (b s : Bench) → Consumes before mid first
+      → (length first < 8 → IsAtEnd mid) → opening_of first ≡ Ok b
+      → Answered b s mid after held lined → Appends lined written (processes_text s)
       → IfSome before (λ bytes. length bytes < 2 ^ 66 → Appends held written (output_of bytes))
   unfolding output_of written_after
-  output_opened None mid after held lined written s read end a d w = tt
-  output_opened (Some xs) None after held lined written s read end a d w = absurd read
-  output_opened (Some xs) (Some rest) after held lined written s read end a d w = λ few.
+  output_opened None mid after held lined written b s read end a d w = tt
+  output_opened (Some xs) None after held lined written b s read end a d w = absurd read
+  output_opened (Some xs) (Some rest) after held lined written b s read end a d w = λ few.
       let e : rest ≡ d.bytes =
       given_all after rest d.bytes d.read d.all (omega (arith, ap length read, length-append first rest)) in
       rw (read, front first rest h end, back first rest h end, a, e, ← d.state)

@@ -16,7 +16,7 @@ fn write_accepted<W: Write>(out: &mut W, first: u64, accepted: u32) -> io::Resul
     ensures { OnOk result (Appends (W.contents out.old) (W.contents out.new) (accepted_text first accepted)) }
 {
     for number in first..first + u64::from(accepted) {
-        let line = Line { number, refusal: 0 };
+        let line = Line { number, refusal: None };
         write!(out, "{line}")?;
     }
     Ok(())
@@ -42,10 +42,10 @@ pub fn write_lines<W: Write>(
         bench = ended.bench;
         write_accepted(out, first + i as u64, ended.accepted)?;
         i += ended.accepted as usize;
-        if let Cause::Refused(r) = ended.cause {
+        if let Cause::Refused(refusal) = ended.cause {
             let line = Line {
                 number: first + i as u64,
-                refusal: r.number,
+                refusal: Some(refusal),
             };
             write!(out, "{line}")?;
             i += 1;

@@ -12,7 +12,7 @@ ghost use Rattle.simulate.specs.LinesLaws.{Answered};
 
 use crate::lines::write_lines;
 use crate::opening::opening;
-use bench::{Answer, Bench};
+use bench::Bench;
 use reading::read_full;
 use std::io;
 use std::io::{BufWriter, Read, Write};
@@ -54,20 +54,18 @@ fn simulate<R: Read, W: Write>(
         → Appends (W.contents out.old) (W.contents out.new) (output_of bytes))) }
 {
     let read = read_full(input, &mut buffer[..8])?;
-    let opened = opening(&buffer[..read]);
-    match opened.answer {
-        Answer::Accepted => {
-            let bench = answer_all(input, out, opened.bench, buffer)?;
+    match opening(&buffer[..read]) {
+        Ok(opened) => {
+            let bench = answer_all(input, out, opened, buffer)?;
             write!(out, "{}", Processes { bench: &bench })?;
         }
-        Answer::Refused(r) => write!(
-            out,
-            "{}",
-            Line {
+        Err(refusal) => {
+            let line = Line {
                 number: 0,
-                refusal: r.number
-            }
-        )?,
+                refusal: Some(refusal),
+            };
+            write!(out, "{line}")?;
+        }
     }
     out.flush()
 }

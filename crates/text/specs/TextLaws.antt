@@ -8,11 +8,11 @@ use Rattle.sets.specs.TruthLaws.{select_on, select_off, less_mk, less_off, le-or
 use Rattle.sets.specs.Truth.{bit}
 use Rattle.sets.specs.Lists.{joined}
 use Rattle.global_data.specs.GlobalData.{entry_of}
-use Rattle.global_data.specs.declared.Entry.TheVariants.{Value}
+use Rattle.global_data.specs.declared.Value.{Value}
 use Rattle.process.specs.declared.Process.{Process}
 use Rattle.process.specs.Steps.{has_decided}
 use Rattle.text.specs.Text.{process_text}
-use Rattle.text.specs.Text.{digits_of, decimal, field_of, entry_text, line_of}
+use Rattle.text.specs.Text.{digits_of, decimal, field_of, value_text, entry_text, line_of}
 
 digits_low : (k x : ℕ) → x < 10 → digits_of (suc k) x ≡ (48 + x) ∷ []
 unfolding digits_of
@@ -52,10 +52,10 @@ pub line_printed : (k r : ℕ) → k < 2 ^ 64 → r < 2 ^ 64
 unfolding line_of field_of
 line_printed k r h i = rw (decimal_printed k h, decimal_printed r i)
 
-pub value_printed : (p d : ℕ) → p < 2 ^ 16 → d < 2 ^ 16
-    → entry_text (Value p d) ≡ 32 ∷ (fmt.decimal p ++ (47 ∷ fmt.decimal d))
-unfolding entry_text field_of
-value_printed p d h i = rw (decimal_printed p (omega arith), decimal_printed d (omega arith))
+pub value_printed : (v : Value) → v.portions < 2 ^ 16 → v.diet < 2 ^ 16
+    → value_text v ≡ fmt.decimal v.portions ++ (47 ∷ fmt.decimal v.diet)
+unfolding value_text
+value_printed v h i = rw (decimal_printed v.portions (omega arith), decimal_printed v.diet (omega arith))
 
 -- of a `bool` as a number
 pub bit_number : (b : Bool) → bit b ≡ from_bool b

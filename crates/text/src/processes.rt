@@ -1,31 +1,51 @@
 // The lines of the processes: `T`, number, round, stopped, decided, and the entries of the estimate,
 // which is the decision once it is taken.
-ghost use Rattle.std.specs.Prelude.{◌≤◌, Some};
-ghost use Rattle.global_data.specs.GlobalData.{entry_by};
-ghost use Rattle.text.specs.Text.{entry_text, process_text, processes_text};
+ghost use Rattle.std.specs.Prelude.{◌≡◌, ◌<◌, ◌≤◌, Some};
+ghost use Rattle.global_data.specs.GlobalData.{entry_of};
+ghost use Rattle.text.specs.Text.{value_text, entry_text, process_text, processes_text};
 
 use bench::Bench;
-use global_data::{diet, portions};
+use global_data::{Entry, GlobalData, Value};
 use process::Process;
 use std::fmt;
 
-// An entry after a space, of its present bit and its word.
+// A value: its portions and its diet portions.
 #[derive(Clone, Copy)]
-struct EntryText {
-    present: bool,
-    word: u32,
-}
+struct ValueText(Value);
 
-impl fmt::Display for EntryText {
-    ghost output = { λ e. Some (entry_text (entry_by e.present e.word)) };
+impl fmt::Display for ValueText {
+    ghost output = { λ v. Some (value_text v.0) };
 
     fn fmt<W: fmt::Write>(&self, f: &mut fmt::Formatter<W>) -> fmt::Result {
-        if !self.present {
-            return write!(f, " -");
+        let Value { portions, diet } = self.0;
+        write!(f, "{portions}/{diet}")
+    }
+}
+
+// An entry after a space.
+#[derive(Clone, Copy)]
+struct EntryText(Entry);
+
+impl fmt::Display for EntryText {
+    ghost output = { λ e. Some (entry_text e.0) };
+
+    fn fmt<W: fmt::Write>(&self, f: &mut fmt::Formatter<W>) -> fmt::Result {
+        match self.0 {
+            None => write!(f, " -"),
+            Some(value) => write!(f, " {}", ValueText(value)),
         }
-        let portions = portions(self.word);
-        let diet = diet(self.word);
-        write!(f, " {portions}/{diet}")
+    }
+}
+
+// The entry of process k, from 0.
+fn entry(g: &GlobalData, k: usize) -> Entry
+    requires { k < 16 }
+    ensures { result ≡ entry_of g.now k }
+{
+    if sets::member(g.present, k) {
+        Some(Value::from(g.values[k]))
+    } else {
+        None
     }
 }
 
@@ -49,11 +69,7 @@ impl fmt::Display for ProcessLine {
         let decided = u8::from(self.process.has_decided());
         write!(f, "T {number} {round} {crashed} {decided}")?;
         for k in 0..usize::from(self.n) {
-            let entry = EntryText {
-                present: sets::member(self.process.estimate.present, k),
-                word: self.process.estimate.values[k],
-            };
-            write!(f, "{entry}")?;
+            write!(f, "{}", EntryText(entry(&self.process.estimate, k)))?;
         }
         writeln!(f)
     }

@@ -7,7 +7,8 @@ ghost use Rattle.sets.specs.Lists.{joined};
 ghost use Rattle.bench.specs.TransitList.{message_bytes, list_of, listed_in};
 ghost use Rattle.bench.specs.TransitLaws.{sender_bytes, round_bytes, Stores};
 
-use bench::{Bench, Listed, Refusal};
+use bench::Bench;
+use refusal::Refusal;
 use soundness::is_sound;
 
 // Message r of a to b, where it is in transit. Gives the place after it.
@@ -103,20 +104,20 @@ fn all_messages(n: u8, t: u8, words: &[u16]) -> usize
 
 // Lists the messages in transit in `out`, by round, sender and receiver, and gives how many there are. Nothing is
 // written where it refuses.
-pub fn in_transit(b: Bench, out: &mut [u8]) -> Listed
+pub fn in_transit(b: Bench, out: &mut [u8]) -> Result<usize, Refusal>
     ensures value { result ≡ list_of b out.old }
     ensures out_after { out.new ≡ listed_in b out.old }
 {
     if !is_sound(b) {
-        return Listed::Refused(Refusal { number: 2 });
+        return Err(Refusal::Damaged);
     }
     let n = b.n;
     let t = b.t;
     let words = b.in_transit;
     let messages = all_messages(n, t, &words);
     if out.len() < messages * 3 {
-        return Listed::Refused(Refusal { number: 10 });
+        return Err(Refusal::Slice);
     }
     put_all(out, n, t, &words);
-    Listed::Count(messages)
+    Ok(messages)
 }

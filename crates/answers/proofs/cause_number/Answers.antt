@@ -12,4 +12,4 @@ returns-in-Spent c = rw c.in-Spent.is
 
 pub returns-in-Refused : goal.returns-in-Refused
 unfolding cause_number
-returns-in-Refused c = rw c.in-Refused.is
+returns-in-Refused c = rw (c.in-Refused.is, c.number.ensures)

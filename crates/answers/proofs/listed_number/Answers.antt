@@ -2,10 +2,10 @@
 use Rattle.answers.specs.Numbers.{listed_number}
 use Rattle.answers.proofs.listed_number.Goals as goal
 
-pub returns-in-Count : goal.returns-in-Count
+pub returns-in-Ok : goal.returns-in-Ok
 unfolding listed_number
-returns-in-Count c = rw c.in-Count.is
+returns-in-Ok c = rw c.in-Ok.is
 
-pub returns-in-Refused : goal.returns-in-Refused
+pub returns-in-Err : goal.returns-in-Err
 unfolding listed_number
-returns-in-Refused c = rw c.in-Refused.is
+returns-in-Err c = rw (c.in-Err.is, c.number.ensures)

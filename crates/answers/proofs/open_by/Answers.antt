@@ -1,12 +1,11 @@
 -- By the answer of `open`.
 use Rattle.answers.specs.Numbers.{answer_number, opened_in, host_opened_of}
-use Rattle.answers.proofs.open_by.Goals.{After-open-o}
 use Rattle.answers.proofs.open_by.Goals as goal
 
-pub returns-in-Accepted : goal.returns-in-Accepted
+pub returns-in-Ok : goal.returns-in-Ok
 unfolding host_opened_of answer_number opened_in
-returns-in-Accepted c = rw (← (goal.at.returns-in-Accepted c).After-open-o.open-o.ensures, c.in-Accepted.is)
+returns-in-Ok c = rw (← c.open.ensures, c.in-Ok.is)
 
-pub returns-in-Refused : goal.returns-in-Refused
+pub returns-in-Err : goal.returns-in-Err
 unfolding host_opened_of answer_number opened_in
-returns-in-Refused c = rw (← (goal.at.returns-in-Refused c).After-open-o.open-o.ensures, c.in-Refused.is)
+returns-in-Err c = rw (← c.open.ensures, c.in-Err.is, c.number.ensures)

@@ -2,10 +2,10 @@
 use Rattle.answers.specs.Numbers.{shown_number}
 use Rattle.answers.proofs.shown_number.Goals as goal
 
-pub returns-in-Marks : goal.returns-in-Marks
+pub returns-in-Ok : goal.returns-in-Ok
 unfolding shown_number
-returns-in-Marks c = rw c.in-Marks.is
+returns-in-Ok c = rw c.in-Ok.is
 
-pub returns-in-Refused : goal.returns-in-Refused
+pub returns-in-Err : goal.returns-in-Err
 unfolding shown_number
-returns-in-Refused c = rw c.in-Refused.is
+returns-in-Err c = rw (c.in-Err.is, c.number.ensures)

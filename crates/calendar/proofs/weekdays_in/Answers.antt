@@ -1,4 +1,5 @@
--- The weekdays before the end of the record, without those before its beginning.
+-- The weekdays before the end of the period, without those before its beginning.
+use Rattle.calendar.specs.PassLaws.{record_of}
 use Rattle.calendar.proofs.PassLaws.{weekdays}
 use Rattle.calendar.proofs.weekdays_in.Goals as goal
 
@@ -12,4 +13,4 @@ returns c =
       c.weekdays_before-until.ensures,
       c.weekdays_before-from.ensures,
     )
-    (weekdays a.monday a.p)
+    (weekdays a.monday (record_of a.period))

@@ -1,45 +1,59 @@
--- `fill_words` fills: it takes the row's words where the row has what the marks lack, from the lowest on. The loop's
--- invariant: what is taken and what is left give together what all of these give.
-use mathlib.Core.Path.{◌≡◌, sym, ◌∙◌}
+-- `fill_words` fills: it takes the row's words where the row has what the marks lack. The loop's invariant: what is
+-- taken and what is left give together what all of these give.
+use mathlib.Core.Path.{◌≡◌, refl, sym, ◌∙◌}
 use Prim.Native.Nat.{◌<◌}
-use native.Mathlib.Nat.{lt_trans}
+use native.Mathlib.Omega.{arith}
 use lib.ListN.{length-set}
 use borrow.Author.Rules.{rules}
+use Rattle.sets.specs.MembersLaws.{Turn, left_turn, left_none}
 use Rattle.sets.specs.Set.{difference_of}
-use Rattle.sets.specs.LowestLaws.{lowest_in, lowest_lt, rest_less}
-use Rattle.global_data.proofs.Laws.{words_from, fill_words, words_more, words_none}
-use Rattle.global_data.proofs.fill_words.Goals.{After-rest-left}
+use Rattle.global_data.proofs.Laws.{fill_words, words_more, words_none}
+use Rattle.global_data.proofs.fill_words.Goals.{In-Some}
 use Rattle.global_data.proofs.fill_words.Goals as goal
 
-pub loop-left-init : goal.loop-left-init
-loop-left-init c = (search rules, c.requires, rw c.difference-left.ensures)
+pub loop-k-init : goal.loop-k-init
+loop-k-init c = (
+  difference_of c.args.row.present c.args.marks,
+  record {
+    few = rw (← c.difference.ensures) (search rules);
+    list = c.into_iter-k-iterator.ensures.into_iter_gives ∙ rw (← c.difference.ensures) c.members-k-items.ensures;
+  },
+  c.told-values,
+  refl,
+)
 
--- the members left but the lowest are a smaller number
-less : (c : After-rest-left) → c.rest-left.result < c.loop-left.left
-less c =
-    let l = c.loop-left in
-    rw c.rest-left.ensures (rest_less l.left (search rules) l.invariant.0)
+turn : (c : In-Some) → Turn c.next.new.self c.loop-k.invariant.0 c.in-Some.k
+turn c = left_turn c.loop-k.invariant.1 c.in-Some.ensures.steps
 
-pub loop-left-preserved : goal.loop-left-preserved
-loop-left-preserved c =
-    let l = c.loop-left in
-    let p : 0 < l.left = search rules in (
-      lt_trans (less c) l.invariant.0,
-      length-set l.values c.lowest-k.result _ ∙ l.invariant.1,
-      rw (c.rest-left.ensures, c.lowest-k.ensures.0)
-          (words_more l.left c.args.row.values l.values _
-          l.invariant.1 (lowest_lt l.left p l.invariant.0) (lowest_in l.left p l.invariant.0)
-          ∙ l.invariant.2),
+low : (c : In-Some) → c.in-Some.k < 16
+low c = (turn c).low
+
+pub bounds-row-k : goal.bounds-row-k
+bounds-row-k c = low (goal.at.bounds-row-k c).In-Some
+
+pub bounds-values-k : goal.bounds-values-k
+bounds-values-k c = low (goal.at.bounds-values-k c).In-Some
+
+pub offset_bounds-values-k : goal.offset_bounds-values-k
+offset_bounds-values-k c = let h = low (goal.at.offset_bounds-values-k c).In-Some in search rules
+
+pub offset_bounds-row-k : goal.offset_bounds-row-k
+offset_bounds-row-k c = let h = low (goal.at.offset_bounds-row-k c).In-Some in search rules
+
+pub loop-k-preserved : goal.loop-k-preserved
+loop-k-preserved c =
+    let i = c.loop-k.invariant in
+    let t = turn (goal.at.loop-k-preserved c).In-Some in (
+      _,
+      t.others,
+      length-set _ _ _ ∙ i.2,
+      words_more i.0 c.args.row.values c.loop-k.values _ i.2 t.low t.member ∙ i.3,
     )
 
 pub returns : goal.returns
 returns c =
-    let l = c.loop-left in
-    let x = c.args in
-    let z : l.left ≡ 0 = search rules in
-    let v : l.values ≡ words_from (difference_of x.row.present x.marks) x.row.values x.values.now =
-    sym (words_none x.row.values l.values l.invariant.1) ∙ (rw z at l.invariant.2) in
-    rw (c.union.ensures, v) (sym (fill_words _ x.row))
-
-pub loop-left-smaller : goal.loop-left-smaller
-loop-left-smaller c = less c
+    let i = c.loop-k.invariant in
+    let v =
+    sym (words_none c.args.row.values c.loop-k.values i.2)
+    ∙ (rw (left_none i.1 c.in-None.ensures.steps.0) at i.3) in
+    rw (c.union.ensures, v) (sym (fill_words _ c.args.row))

@@ -1,8 +1,7 @@
--- `sets::difference` returns the difference: the definition is the code's own operation.
+-- `sets::difference` keeps of a what is not in b: the law `and_not`.
 use borrow.Author.Rules.{rules}
-use Rattle.sets.specs.Set.{difference_of}
+use Rattle.sets.specs.Laws.{and_not}
 use Rattle.sets.proofs.difference.Goals as goal
 
 pub returns : goal.returns
-unfolding difference_of
-returns c = search rules
+returns c = and_not c.args.a c.args.b (search rules) (search rules)

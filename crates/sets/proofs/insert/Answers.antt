@@ -1,7 +1,6 @@
 -- `sets::insert` puts i in: the shift loses no digit, since i is below 16.
 use mathlib.Core.Path.{ap}
 use native.Mathlib.Omega.{arith}
-use borrow.Author.Rules.{rules}
 use lib.Bits.{bit_or}
 use Rattle.sets.specs.Set.{insert_of}
 use Rattle.sets.specs.Laws.{shifted_one}

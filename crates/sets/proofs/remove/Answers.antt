@@ -1,7 +1,6 @@
 -- `sets::remove` takes i out: the difference with the set of i alone, which the shift makes, since i is below 16.
 use mathlib.Core.Path.{ap, ◌∙◌}
 use native.Mathlib.Omega.{arith}
-use borrow.Author.Rules.{rules}
 use Rattle.sets.specs.Set.{difference_of, remove_of}
 use Rattle.sets.specs.Laws.{shifted_one}
 use Rattle.sets.proofs.remove.Goals as goal

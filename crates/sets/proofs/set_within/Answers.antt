@@ -1,7 +1,6 @@
 -- `set_within` compares with 2 ^ n, which the shift makes, since n is at most 16.
 use mathlib.Core.Path.{ap}
 use native.Mathlib.Omega.{arith}
-use borrow.Author.Rules.{rules}
 use Rattle.sets.specs.Truth.{less}
 use Rattle.sets.specs.Laws.{shifted_one}
 use Rattle.sets.specs.Set.{within}
@@ -9,4 +8,4 @@ use Rattle.sets.proofs.set_within.Goals as goal
 
 pub returns : goal.returns
 unfolding within less
-returns c = ap (less c.args.m) (shifted_one 32 c.args.n (omega arith))
+returns c = rw c.from.ensures (ap (less c.args.m) (shifted_one 32 c.args.n (omega arith)))

@@ -5,7 +5,7 @@ use Prim.Native.Nat.{◌*◌, ◌/◌, ◌≤◌}
 use native.Mathlib.Omega.{arith}
 use lib.ListN.{length}
 use borrow.Author.Rules.{rules}
-use Rattle.bench.specs.declared.Listed.TheVariants.{Count}
+use Rattle.std.specs.Prelude.{Ok}
 use Rattle.bench.specs.TransitList.{transit_bytes}
 use Rattle.bench.specs.CallLaws.{list_damaged, list_short, list_fits, list_refused, list_listed}
 use Rattle.bench.specs.Sound.{sound_of}
@@ -67,7 +67,7 @@ returns c =
     let p = c.put_all in
     let m : c.all_messages-messages.result ≡ length (transit_bytes a.b) / 3 = omega (arith, measured (goal.at.returns c).After-all_messages-messages) in
     record {
-      value = ap Count m ∙ sym r.0;
+      value = ap Ok m ∙ sym r.0;
       out_after =
           stores_front a.out.now (transit_bytes a.b) p.new.out p.result room (rw (transit_by a.b) p.ensures) ∙ sym r.1;
     }

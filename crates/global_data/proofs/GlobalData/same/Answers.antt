@@ -2,7 +2,7 @@
 -- present entries below k are the same.
 use mathlib.Core.Path.{◌≡◌, refl, sym, ◌∙◌}
 use Prim.Native.Nat.{◌-◌}
-use native.Mathlib.Nat.{le_antisymm}
+use native.Mathlib.Omega.{arith}
 use native.Mathlib.Numerals.{add-one}
 use borrow.Author.Rules.{rules}
 use Rattle.sets.specs.Lists.{every}
@@ -26,23 +26,15 @@ returns-then-marks-intersection c =
 
 pub loop-k-init : goal.loop-k-init
 unfolding every
-loop-k-init c = (search rules, refl)
+loop-k-init c = refl
 
 pub loop-k-preserved : goal.loop-k-preserved
 unfolding every ◌and◌
-loop-k-preserved c = (
-  search rules,
-  rw (
-    add-one,
-    c.same_where-ok.ensures,
-    c.member.ensures,
-    c.loop-k.invariant.1,
-  ),
-)
+loop-k-preserved c = rw (add-one, c.same_where-ok.ensures, c.member.ensures, c.loop-k.invariant)
 
 pub returns : goal.returns
 returns c =
     let m = marked (goal.at.returns c).After-intersection in
-    let z : c.loop-k.k ≡ 16 = le_antisymm c.loop-k.invariant.0 c.loop-k-test.false in
-    (rw (z, m.0) at c.loop-k.invariant.1)
+    let z : c.loop-k.k ≡ 16 = omega arith in
+    (rw (z, m.0) at c.loop-k.invariant)
     ∙ sym (same_words_marked _ _ _ c.requires (sym m.0 ∙ c.if-marks-intersection.false ∙ m.1))

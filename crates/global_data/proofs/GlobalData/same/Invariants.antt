@@ -1,13 +1,7 @@
 use mathlib.Core.Path.{◌≡◌}
-use Prim.Native.Nat.{◌≤◌, ◌-◌}
 use Rattle.sets.specs.Lists.{every}
 use Rattle.global_data.proofs.Laws.{marks, words_same}
 use Rattle.global_data.proofs.GlobalData.same.Given as goal
 
 abbrev pub invariant-loop-k : goal.invariant-loop-k
-invariant-loop-k l =
-    (l.k ≤ 16) × (l.ok ≡ every l.k (words_same l.marks l.self l.other))
-
-abbrev pub decreases-loop-k : goal.decreases-loop-k
-decreases-loop-k l =
-    16 - l.k
+invariant-loop-k l = l.ok ≡ every l.k (words_same l.marks l.self l.other)

@@ -1,20 +1,21 @@
--- By the four cases, of which one has the number 1.
+-- Of the three closings one has the number 1.
+use mathlib.Core.Path.{◌≡◌, refl}
+use mathlib.Core.Bool.{false}
 use Rattle.sets.specs.Truth.{same}
+use Rattle.process.specs.declared.Closing.{Closing}
+use Rattle.process.specs.declared.Closing.TheVariants.{NextRound, Agreed, LastRound}
 use Rattle.process.specs.Steps.{closing_number, opens_next}
 use Rattle.process.proofs.Closing.opens_next.Goals as goal
-
-pub returns-in-None : goal.returns-in-None
-unfolding opens_next closing_number same
-returns-in-None c = rw c.in-None.is
 
 pub returns-in-NextRound : goal.returns-in-NextRound
 unfolding opens_next closing_number same
 returns-in-NextRound c = rw c.in-NextRound.is
 
-pub returns-in-Agreed : goal.returns-in-Agreed
+other : (x : Closing) → (x ≡ NextRound → ⊥) → false ≡ opens_next x
 unfolding opens_next closing_number same
-returns-in-Agreed c = rw c.in-Agreed.is
+other NextRound h = absurd (h refl)
+other Agreed h = refl
+other LastRound h = refl
 
-pub returns-in-LastRound : goal.returns-in-LastRound
-unfolding opens_next closing_number same
-returns-in-LastRound c = rw c.in-LastRound.is
+pub returns-in_default : goal.returns-in_default
+returns-in_default c = other c.args.self c.in_default.not-NextRound

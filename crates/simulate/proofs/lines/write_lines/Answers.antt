@@ -5,6 +5,7 @@ use Rattle.bench.specs.OneByOne.{steps}
 use Rattle.simulate.specs.Output.{records_in, lines_of, after_all}
 use Rattle.simulate.specs.LinesLaws.{refused_in, cause_text, Taken, taken_part, none_refused}
 use Rattle.text.specs.Text.{line_of}
+use Rattle.refusal.specs.Numbers.{refusal_number}
 use Rattle.simulate.proofs.lines.write_lines.Goals.{After-run_bytes-ended}
 use Rattle.simulate.proofs.lines.write_lines.Goals as goal
 
@@ -41,7 +42,7 @@ loop-i-preserved-in-Refused g c =
     let r : refused_in e.cause ≡ 1 = rw c.in-Refused.is in
     let q : l.i + (e.accepted + refused_in e.cause) ≡ l.i + e.accepted + 1 = omega (arith, r) in
     let x : cause_text (c.args.first + l.i + e.accepted) e.cause
-    ≡ line_of (c.args.first + (l.i + e.accepted)) c.in-Refused.r.number =
+    ≡ line_of (c.args.first + (l.i + e.accepted)) (refusal_number c.in-Refused.refusal) =
     let p : c.args.first + l.i + e.accepted ≡ c.args.first + (l.i + e.accepted) = omega arith in
     rw (c.in-Refused.is, p) in (
       l.invariant.0,

@@ -1,6 +1,5 @@
 use Rattle.std.proofs.Common.{Bool, true, refl, arith, add-one, rules, ◌≡◌, Bool, true}
 use Rattle.std.proofs.Output.{has_written_append, writes_in_calls_nil}
-use Rattle.global_data.specs.GlobalData.{entry_of}
 use Rattle.sets.specs.Lists.{joined}
 use Rattle.text.specs.TextLaws.{process_printed}
 use Rattle.text.proofs.processes.ProcessLineDisplay.fmt.Goals as goal
@@ -10,11 +9,10 @@ unfolding joined
 loop-k-init g c = λ p. record { wrote = writes_in_calls_nil _ _; plain = p }
 
 pub loop-k-preserved : goal.loop-k-preserved
-unfolding joined entry_of
+unfolding joined
 loop-k-preserved g c = λ p.
     let i = c.loop-k.invariant p in
-    let e = c.member.ensures in
-    rw add-one (has_written_append _ _ _ _ _ _ i (rw e at (c.in_ok-write-2.ensures.writes i.plain (refl {A = Bool} {a = true}))))
+    rw add-one (has_written_append _ _ _ _ _ _ i (rw c.entry.ensures at (c.in_ok-write-2.ensures.writes i.plain (refl {A = Bool} {a = true}))))
 
 pub returns-clause-writes : goal.returns-clause-writes
 returns-clause-writes g c =

@@ -83,7 +83,7 @@ fn records(rt: &impl Print, bench: &mut Bench, budget: u8, bytes: &[u8]) -> io::
 
 // A process, from 1.
 fn process(rt: &impl Print, bench: &Bench, number: u8) -> io::Result<()> {
-    let p = bench.processes[usize::from((number + 15) % 16)];
+    let p = bench.processes[(usize::from(number) + 15) % 16];
     say(rt, p.round)?;
     say(rt, u8::from(p.has_decided()))?;
     say(rt, p.current)?;

@@ -1,6 +1,6 @@
 -- What the call for one record makes of the end of a run is what its contract says, since a run of the record in the
 -- bytes is the call for it (`step_run`).
-use Rattle.std.specs.Prelude.{◌≡◌, List, ℕ, is_ok, Result}
+use Rattle.std.specs.Prelude.{◌≡◌, List, ℕ, is_ok, Result, ⊤}
 use Rattle.std.proofs.Common.{◌∙◌, ap}
 use Rattle.refusal.specs.declared.Refusal.{Refusal}
 use Rattle.bench.specs.declared.Bench.{Bench}

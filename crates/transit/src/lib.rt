@@ -108,7 +108,7 @@ pub fn in_transit(b: Bench, out: &mut [u8]) -> Result<usize, Refusal>
     ensures value { result ≡ list_of b out.old }
     ensures out_after { out.new ≡ listed_in b out.old }
 {
-    if !is_sound(b) {
+    if !is_sound(&b) {
         return Err(Refusal::Damaged);
     }
     let n = b.n;

@@ -1,32 +1,34 @@
--- `all_messages` sums the messages of each round. The loop's invariant: three times the sum is the length of
--- the bytes of the rounds below r.
-use mathlib.Core.Path.{◌≡◌, refl, ap, ◌∙◌}
-use Prim.Native.Nat.{ℕ, ◌+◌, ◌-◌}
-use native.Mathlib.Omega.{arith}
-use lib.ListN.{length}
-use borrow.Author.Rules.{rules}
+-- `all_messages` sums the messages of each round. The loop's invariant: three times the count is the length of
+-- the bytes of the rounds below `round`.
+use Rattle.std.proofs.Common.{◌≡◌, ◌+◌, refl, arith}
 use Rattle.sets.specs.Lists.{joined}
+use Rattle.bench.proofs.SoundLaws.{sound_on}
 use Rattle.bench.specs.TransitLaws.{round_bytes}
-use Rattle.bench.proofs.TransitLaws.{sum_more}
+use Rattle.bench.proofs.TransitLaws.{sum_more, transit_by}
 use Rattle.transit.proofs.all_messages.Goals as goal
 
-pub loop-r-init : goal.loop-r-init
-unfolding joined
-loop-r-init c = (search rules, search rules, refl)
+pub overflow_add-round-end : goal.overflow_add-round-end
+overflow_add-round-end c =
+    let s = sound_on c.args.bench.now c.requires in omega (arith, s.few, s.limit)
 
-pub loop-r-preserved : goal.loop-r-preserved
-loop-r-preserved c =
-    let a = c.args in
-    let l = c.loop-r in (
-      search rules,
-      omega arith,
-      sum_more (round_bytes a.words.now a.n) l.sum c.round_messages-sum.result l.r l.invariant.2
-          c.round_messages-sum.ensures.0,
-    )
+pub loop-round-init : goal.loop-round-init
+unfolding joined
+loop-round-init c = (omega arith, refl)
+
+pub round_messages-count-requires : goal.round_messages-count-requires
+round_messages-count-requires c =
+    let s = sound_on c.args.bench.now c.requires in (c.requires, omega (arith, s.few, s.limit))
+
+pub loop-round-preserved : goal.loop-round-preserved
+loop-round-preserved c =
+    let b = c.args.bench.now in
+    let l = c.loop-round in
+    (omega arith, sum_more (round_bytes b.in_transit b.n) l.count c.round_messages-count.result l.round l.invariant.1 c.round_messages-count.ensures.0)
 
 pub returns : goal.returns
 returns c =
-    let a = c.args in
-    let l = c.loop-r in
-    let e : l.r ≡ a.t + 2 = search rules in
-    (l.invariant.2 ∙ ap (λ (k : ℕ). length (joined k (round_bytes a.words.now a.n))) e, omega arith)
+    let b = c.args.bench.now in
+    let l = c.loop-round in
+    let s = sound_on b c.requires in
+    let e : l.round ≡ b.t + 2 = omega arith in
+    (rw (transit_by b) (rw e at l.invariant.1), omega (arith, s.few, s.limit))

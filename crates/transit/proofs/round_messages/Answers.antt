@@ -1,52 +1,43 @@
--- `round_messages` sums the messages of each sender. The loop's invariant: three times the sum is the length of
--- the bytes of the senders below a.
-use mathlib.Core.Path.{◌≡◌, refl, ap, ◌∙◌}
-use Prim.Native.Nat.{ℕ, ◌+◌, ◌*◌, ◌^◌, ◌≤◌, ◌<◌, ◌-◌}
-use native.Mathlib.Omega.{arith}
-use lib.ListN.{length, get_or}
-use borrow.Author.Rules.{rules}
+-- `round_messages` sums the messages of each sender. The loop's invariant: three times the count is the length of
+-- the bytes of the senders below `from`.
+use Rattle.std.proofs.Common.{◌≡◌, ℕ, ◌+◌, ◌*◌, ◌^◌, ◌<◌, ◌≤◌, refl, ap, ◌∙◌, arith}
 use Rattle.sets.specs.Laws.{size_most}
 use Rattle.sets.specs.Lists.{joined}
+use Rattle.bench.specs.State.{transit_at}
+use Rattle.bench.proofs.SoundLaws.{sound_on}
 use Rattle.bench.specs.TransitLaws.{sender_bytes, round_bytes}
 use Rattle.bench.proofs.TransitLaws.{sum_more, size_length}
 use Rattle.transit.proofs.round_messages.Goals.{After-size}
 use Rattle.transit.proofs.round_messages.Goals as goal
 
-pub loop-a-init : goal.loop-a-init
+pub loop-from-init : goal.loop-from-init
 unfolding joined
-loop-a-init c = (search rules, search rules, refl)
+loop-from-init c = (omega arith, refl)
 
--- the set of this turn: it is within n, so its size is at most n
-low : (c : After-size) → let a = c.args in
-    get_or a.words.now (c.loop-a.a * 17 + a.r) 0 < 2 ^ a.n
-low c =
-    c.requires.3 (c.loop-a.a * 17 + c.args.r)
+pub receivers-requires : goal.receivers-requires
+receivers-requires c = (c.requires.1, omega (arith, (sound_on c.args.bench.now c.requires.0).few))
 
-few : (c : After-size) → c.size.result ≤ 16
-few c = omega (arith, c.size.ensures, size_most c.args.n _ (low c))
+-- the set of this turn is within n
+low : (c : After-size) → c.receivers.result < 2 ^ c.args.bench.now.n
+unfolding transit_at
+low c = rw c.receivers.ensures ((sound_on c.args.bench.now c.requires.0).transit (c.loop-from.from * 17 + c.args.round))
 
-pub loop-a-preserved : goal.loop-a-preserved
-unfolding sender_bytes
-loop-a-preserved c =
-    let a = c.args in
-    let l = c.loop-a in (
-      search rules,
-      omega (arith, few c),
-      sum_more (sender_bytes a.words.now a.n a.r) l.sum c.size.result l.a l.invariant.2
+pub loop-from-preserved : goal.loop-from-preserved
+unfolding sender_bytes transit_at
+loop-from-preserved c =
+    let b = c.args.bench.now in
+    let l = c.loop-from in
+    let few : c.size.result ≤ 16 =
+    omega (arith, c.size.ensures, size_most b.n _ (low c), (sound_on b c.requires.0).few) in (
+      omega arith,
+      sum_more (sender_bytes b.in_transit b.n c.args.round) l.count c.size.result l.from l.invariant.1
           (ap (λ (x : ℕ). x * 3) c.size.ensures
-          ∙ size_length (get_or a.words.now (l.a * 17 + a.r) 0) a.r l.a a.n (low c)),
+          ∙ rw c.receivers.ensures (size_length _ c.args.round l.from b.n (rw (← c.receivers.ensures) (low c)))),
     )
 
 pub returns : goal.returns
 unfolding round_bytes
 returns c =
-    let a = c.args in
-    let l = c.loop-a in
-    let e : l.a ≡ a.n = search rules in
-    (l.invariant.2 ∙ ap (λ (k : ℕ). length (joined k (sender_bytes a.words.now a.n a.r))) e, omega arith)
-
-pub overflow_cast-sum : goal.overflow_cast-sum
-overflow_cast-sum c = omega (arith, few c)
-
-pub overflow_add-sum : goal.overflow_add-sum
-overflow_add-sum c = omega (arith, few c)
+    let l = c.loop-from in
+    let e : l.from ≡ c.args.bench.now.n = omega arith in
+    (rw e at l.invariant.1, omega (arith, (sound_on c.args.bench.now c.requires.0).few))

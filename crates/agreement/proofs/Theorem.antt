@@ -1,17 +1,16 @@
 -- Demand 3, proved: after the history of any list of calls the bench has every invariant and holds what the history
 -- tells, and each part of the demand is read off that one state.
-use Rattle.std.specs.Prelude.{◌≡◌, refl, ◌≢◌, None, Some, List, [], ◌∷◌, ◌++◌, true, false}
+use Rattle.std.specs.Prelude.{◌≡◌, ◌≢◌, None, Some, IsSome, List, [], ◌∷◌, ◌++◌, true, false}
 use Rattle.std.specs.Prelude.{ℕ, suc, ◌+◌, ◌-◌, ◌*◌, ◌^◌, ◌≤◌, ◌<◌, length, get_or, drop}
 use Rattle.std.proofs.Math.Path.{sym, ap}
 use Rattle.std.proofs.Common.{◌∙◌}
-use Rattle.std.proofs.Math.Option.{Option, none, some, Option-elim, IsSome}
 use native.Mathlib.Omega.{arith}
 use Rattle.std.proofs.Math.Pow.{are_bytes}
 use Rattle.sets.specs.Set.{has}
 use Rattle.sets.specs.Laws.{size_count}
 use Rattle.sets.specs.Lists.{count_to, each, every_in}
 use Rattle.sets.specs.Truth.{select}
-use Rattle.sets.specs.TruthLaws.{Is, on, off, is, clash}
+use Rattle.sets.specs.TruthLaws.{Is, on, off, is}
 use Rattle.global_data.specs.declared.GlobalData.{GlobalData}
 use Rattle.global_data.specs.declared.Value.{Value}
 use Rattle.global_data.specs.GlobalData.{value_in, entry_of, same_to}
@@ -39,7 +38,6 @@ use Rattle.agreement.specs.Invariants.RecordBound.{work_bound}
 use Rattle.agreement.specs.Invariants.QuietEnd.{Still, quiet_end}
 use Rattle.agreement.specs.Bridge.BenchView.{view_of}
 use Rattle.agreement.specs.Bridge.EveryEvent.{still_view}
-use Rattle.agreement.specs.Histories.Append.{is_decided}
 use Rattle.agreement.specs.Histories.OneEvent.{decision_got, decision_none}
 use Rattle.agreement.specs.Histories.InvariantsHold.{Along, along_opened, along_next}
 use Rattle.agreement.proofs.Histories.HistoryMatchesBench.{Told, told_opened, told_next}
@@ -75,12 +73,6 @@ account n t o calls =
       starts = starts_opened n t;
     })
 
--- what the history says of a decision is one
-is_some : (o : Option GlobalData) → is_decided o ≡ true → IsSome o
-unfolding is_decided Option-elim
-is_some none d = clash false d refl
-is_some (some g) d = tt
-
 -- two entries that are present together, with one value
 entry_same : (g g' : GlobalData) (k : ℕ) → has g.present k ≡ has g'.present k
     → (has g.present k ≡ true → get_or g.values k 0 ≡ get_or g'.values k 0) → entry_of g k ≡ entry_of g' k
@@ -92,7 +84,7 @@ entry_same g g' k e f = go (is (has g.present k))
 
 module _ (n t : ℕ) (h : List Event) (A : Account n t h) where
   -- what x decided on is what it holds
-  holds : (x : ℕ) (g : GlobalData) → outcome (opened_of n t) h x ≡ some g
+  holds : (x : ℕ) (g : GlobalData) → outcome (opened_of n t) h x ≡ Some g
       → (has_decided (process_at (after_history n t h) x) ≡ true) × ((process_at (after_history n t h) x).estimate ≡ g)
   holds x g e = decision_got _ g (sym (A.told.outcome_is x) ∙ e)
 
@@ -108,8 +100,8 @@ module _ (n t : ℕ) (h : List Event) (A : Account n t h) where
       let E = agree n t _ good.basic good.estimates good.decisions x y d d' k l in
       entry_same _ _ k E.0 E.1
 
-  agreement_of : (x y : ℕ) (g g' : GlobalData) → outcome (opened_of n t) h x ≡ some g
-      → outcome (opened_of n t) h y ≡ some g'
+  agreement_of : (x y : ℕ) (g g' : GlobalData) → outcome (opened_of n t) h x ≡ Some g
+      → outcome (opened_of n t) h y ≡ Some g'
       → same_to n g g' ≡ true
   agreement_of x y g g' e e' =
       let (d, u) = holds x g e in
@@ -117,7 +109,7 @@ module _ (n t : ℕ) (h : List Event) (A : Account n t h) where
       same_mk n g g' (λ k l.
       ap (λ (f : GlobalData). entry_of f k) (sym u) ∙ same_entry_lem x y k l d d' ∙ ap (λ (f : GlobalData). entry_of f k) u')
 
-  validity_of : (x k : ℕ) (v : Value) (g : GlobalData) → outcome (opened_of n t) h x ≡ some g → entry_of g k ≡ Some v
+  validity_of : (x k : ℕ) (v : Value) (g : GlobalData) → outcome (opened_of n t) h x ≡ Some g → entry_of g k ≡ Some v
       → started_with h k ≡ Some v
   unfolding view_of
   validity_of x k v g e w =
@@ -127,7 +119,7 @@ module _ (n t : ℕ) (h : List Event) (A : Account n t h) where
       let E = valid n t _ good.basic good.estimates good.decisions x k f o in
       (A.told.begun k).started E.1 ∙ ap (λ w. Some (value_in w)) (sym E.0) ∙ sym (entry_present _ k o) ∙ w'
 
-  absence_of : (x k : ℕ) (g : GlobalData) → x < n → k < n → outcome (opened_of n t) h x ≡ some g → entry_of g k ≡ None
+  absence_of : (x k : ℕ) (g : GlobalData) → x < n → k < n → outcome (opened_of n t) h x ≡ Some g → entry_of g k ≡ None
       → crashed_in (before_decision (opened_of n t) h) k ≡ true
   absence_of x k g l kn e w =
       let (d, u) = holds x g e in
@@ -165,12 +157,12 @@ module _ (n t : ℕ) (h : List Event) (A : Account n t h) where
   quiet_of f x l c =
       let S = still_view (after_history n t h) A.along_it.closers A.along_it.sound
       (refused_events (after_history n t h) A.along_it.sound f) in
-      is_some _ (decided_is n t h A.told x
+      decided_is n t h A.told x
       ∙ quiet_end n t _ good.basic A.along_it.fit.wire
       (sizes_from n t h (λ m u. Still m u (view_of (after_history n t h) A.along_it.closers)) S) x l
-      (sym (A.told.crashed_is x) ∙ c))
+      (sym (A.told.crashed_is x) ∙ c)
 
-  shows_of : (x : ℕ) (g : GlobalData) (out : List ℕ) → x < n → n ≤ length out → outcome (opened_of n t) h x ≡ some g
+  shows_of : (x : ℕ) (g : GlobalData) (out : List ℕ) → x < n → n ≤ length out → outcome (opened_of n t) h x ≡ Some g
       → (show_of (after_history n t h) (suc x) out ≡ Marks g.present)
       × (shown_in (after_history n t h) (suc x) out ≡ each n (word_at g) ++ drop n out)
   shows_of x g out l r e =
@@ -180,7 +172,7 @@ module _ (n t : ℕ) (h : List Event) (A : Account n t h) where
       (rw u at (shows_decided (after_history n t h) x out A.along_it.sound (sizes_to n t h (λ m v. x < m) l)
       (sizes_to n t h (λ m v. m ≤ length out) r) d))
 
-  hides_of : (x : ℕ) (out : List ℕ) → x < n → n ≤ length out → outcome (opened_of n t) h x ≡ none
+  hides_of : (x : ℕ) (out : List ℕ) → x < n → n ≤ length out → outcome (opened_of n t) h x ≡ None
       → (show_of (after_history n t h) (suc x) out ≡ Refused (refused 11))
       × (shown_in (after_history n t h) (suc x) out ≡ out)
   hides_of x out l r e =

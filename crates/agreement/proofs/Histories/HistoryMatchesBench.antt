@@ -4,7 +4,7 @@ use Rattle.std.specs.Prelude.{◌≡◌, refl, None, Some, List, [], ◌∷◌, 
 use Rattle.std.proofs.Math.Path.{sym, ap, ap₂}
 use Rattle.std.proofs.Common.{◌∙◌, inl, inr, arith}
 use Rattle.std.proofs.Math.Bool.{false}
-use Rattle.std.proofs.Math.Option.{or_else}
+use Rattle.std.specs.Option.{option_or}
 use Rattle.sets.specs.Set.{size_of}
 use Rattle.sets.specs.Laws.{size_empty}
 use Rattle.sets.specs.Truth.{◌or◌, bit}
@@ -96,7 +96,7 @@ module _ (n t : ℕ) (h : List Event) (e : Event) (N : Next n t h e) (A : Along 
       → outcome (opened_of n t) (h ++ (e ∷ [])) x ≡ decision_of (process_at (after_history n t (h ++ (e ∷ []))) x)
   unfolding outcome decides_for after_history
   outcome-next x =
-      outcome-append (opened_of n t) h (e ∷ []) x ∙ ap₂ or_else (T.outcome_is x) (first_none _)
+      outcome-append (opened_of n t) h (e ∷ []) x ∙ ap₂ option_or (T.outcome_is x) (first_none _)
       ∙ sym (decision_effect e (after_history n t h) A.sized.processes actor_low accepted undecided_first x)
       ∙ ap (λ (s : Bench). decision_of (process_at s x)) (sym (reached_next n t h e))
 

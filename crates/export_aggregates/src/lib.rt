@@ -80,8 +80,6 @@ pub extern "C" fn gerzulan_change(
         × (difference.new
         ≡ word_in (λ z. z) (change_of n entries.now marks process standing) difference.old) }
 {
-    put(
-        aggregates::change(n, entries, marks, process, standing),
-        difference,
-    )
+    let answer = aggregates::change(n, entries, marks, process, standing);
+    put(answer, difference)
 }

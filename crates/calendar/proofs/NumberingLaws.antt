@@ -2,7 +2,8 @@
 -- up to m has as many entries as take part, and each stands at its own number. Then what a loop over the sites stores.
 use Rattle.std.specs.Prelude.{◌≡◌, ◌≢◌, Bool, true, false, ◌⊎◌, set, replicate}
 use Rattle.std.proofs.Math.Path.{refl, sym, ap, ap₂}
-use Rattle.std.proofs.Common.{◌∙◌, inl, inr, ⊎_elim, add-one, arith, length-drop, get_or-append-add, get_or-drop, drop-cons}
+use Rattle.std.proofs.Common.{◌∙◌, inl, inr, ⊎_elim, add-one, arith, length-drop, get_or-append-add, get_or-drop}
+use Rattle.std.proofs.Common.{drop-cons}
 use mathlib.Core.List.{List, [], ◌∷◌, ◌++◌, append_assoc, append-nil}
 use Prim.Native.Nat.{ℕ, zero, suc, ◌+◌, ◌-◌, ◌≤◌, ◌<◌}
 use Rattle.std.proofs.Math.ListN.{length, get_or, drop, length-append, get_or-append, get_or-eq_default}

@@ -1,6 +1,7 @@
 -- One pass over the records tells who takes part: of each kind and site it marks the weekdays that lie in a record,
 -- and a site takes part where a day marked as term is not marked as closed. By induction on the records looked at.
-use Rattle.std.specs.Prelude.{◌≡◌, refl, Bool, true, false, not, List, [], ℕ, suc, ◌+◌, ◌-◌, ◌*◌, ◌/◌, ◌≤◌, ◌<◌, min, length, ◌≢◌, ◌⊎◌, zero, get_or, set, take, drop, replicate}
+use Rattle.std.specs.Prelude.{◌≡◌, refl, Bool, true, false, not, List, [], ℕ, suc, ◌+◌, ◌-◌, ◌*◌, ◌/◌, ◌≤◌, ◌<◌, min}
+use Rattle.std.specs.Prelude.{length, ◌≢◌, ◌⊎◌, zero, get_or, set, take, drop, replicate}
 use Rattle.std.proofs.Common.{◌∙◌, sym, ap, ap₂, arith, inl, inr, length-set, get_or-set_same, get_or-set_other}
 use Rattle.std.proofs.Math.ListN.{length-replicate}
 use Rattle.std.proofs.lemmas.List.{get_or-replicate, get_or-take, get_or-drop, drop-drop}
@@ -17,7 +18,8 @@ use Rattle.calendar.specs.declared.Kind.{Kind}
 use Rattle.calendar.specs.declared.Kind.TheVariants.{Term, Closed}
 use Rattle.calendar.specs.declared.Marks.{Marks}
 use Rattle.calendar.specs.declared.Period.{Period}
-use Rattle.calendar.specs.Calendar.{Record, kind_number, periods_in, period_at, well_formed, own_of, lies, has_day, lies_in, open_on}
+use Rattle.calendar.specs.Calendar.{Record, kind_number, periods_in, period_at, well_formed, own_of, lies, has_day}
+use Rattle.calendar.specs.Calendar.{lies_in, open_on}
 use Rattle.calendar.specs.Calendar.{takes_part_in}
 use Rattle.calendar.specs.PassLaws.{record_of, lies_in_to, no_marks, marked_by, with_days, Marked, some_day, open_in}
 
@@ -155,7 +157,8 @@ module _ (calendar : List ℕ) (monday : ℕ) where
         ∙ ap₂ (λ x y. x or (y and has days i))
         (ap (λ x. has (marked_by kind (get_or sites x no_marks)) i) (sym u) ∙ m.marked kind k i l)
         (sym (and_on_r _ _ (same_mk _ _ v)))
-        ∙ ap (λ x. (less i 5 and lies_in_to calendar j kind (k + 1) (monday + i)) or (own_of kind (k + 1) (record_of period) and x)) (h i)
+        ∙ ap (λ x. (less i 5 and lies_in_to calendar j kind (k + 1) (monday + i))
+        or (own_of kind (k + 1) (record_of period) and x)) (h i)
         ∙ more_days (less i 5) _ (lies (monday + i) (record_of period)) (own_of kind (k + 1) (record_of period))
         ∙ ap (λ b. less i 5 and b) (sym (lies_more kind (k + 1) (monday + i)))
 

@@ -53,7 +53,8 @@ with_days m Closed days = record { term = m.term; closed = union_of m.closed day
 pub record Marked (calendar : List ℕ) (monday j : ℕ) (sites : List Marks) : Type 0 where
   pub long : length sites ≡ 16
   pub marked : (kind : Kind) (k i : ℕ) → k < 16
-      → has (marked_by kind (get_or sites k no_marks)) i ≡ (less i 5 and lies_in_to calendar j kind (k + 1) (monday + i))
+      → has (marked_by kind (get_or sites k no_marks)) i
+      ≡ (less i 5 and lies_in_to calendar j kind (k + 1) (monday + i))
 
 -- it has looked at all records, or met a fault
 abbrev pub MarksAll : List ℕ → ℕ → Result (List Marks) Refusal → Type 0

@@ -37,7 +37,8 @@ pub returns : goal.returns
 unfolding periods_in same
 returns c =
     let none = same_on (length c.as_chunks.result.1.now) 0 (sym c.if-not-is_empty.ensures) in
-    let n : c.loop-record.record-index ≡ length c.args.calendar.now / 8 = omega (arith, c.as_chunks.ensures.front_len) in (
+    let n : c.loop-record.record-index ≡ length c.args.calendar.now / 8 =
+    omega (arith, c.as_chunks.ensures.front_len) in (
       same_mk _ 0 (sym c.as_chunks.ensures.back_len ∙ none),
       rw n at c.loop-record.invariant.0,
       rw n at c.loop-record.invariant.1,

@@ -4,7 +4,8 @@ use Rattle.std.proofs.lemmas.Result.{err_from_is_err_and}
 use Rattle.refusal.specs.declared.Refusal.TheVariants.{Calendar}
 use Rattle.sets.specs.Truth.{◌and◌}
 use Rattle.sets.specs.TruthLaws.{Is, is, on, off, and_on_l}
-use Rattle.calendar.specs.Calendar.{periods_in, takes_part_in, how_many, numbering_of, whole_records, all_well_formed, week_of}
+use Rattle.calendar.specs.Calendar.{periods_in, takes_part_in, how_many, numbering_of, whole_records, all_well_formed}
+use Rattle.calendar.specs.Calendar.{week_of}
 use Rattle.calendar.specs.declared.Numbering.{Numbering}
 use Rattle.calendar.specs.declared.Marks.{Marks}
 use Rattle.calendar.specs.PassLaws.{Marked, open_in}

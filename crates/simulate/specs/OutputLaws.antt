@@ -21,8 +21,8 @@ module _ (first rest : List ℕ) (h : length first ≤ 8) (end : length first < 
       ⊎_elim (λ b. take-append-le 8 first rest b ∙ take_all 8 first h)
       (λ b. rw (end b, append-nil first) (take_all 8 first h)) (le-or 8 (length first))
 
-  back : drop 8 (first ++ rest) ≡ rest
-  back =
+  behind : drop 8 (first ++ rest) ≡ rest
+  behind =
       ⊎_elim (λ b. drop_at first rest 8 (omega arith))
       (λ b. rw (end b, append-nil first) (drop_all 8 first h)) (le-or 8 (length first))
 
@@ -55,5 +55,5 @@ module _ (first : List ℕ) (h : length first ≤ 8) where
   output_opened (Some xs) (Some rest) after held lined written b s read end a d w = λ few.
       let e : rest ≡ d.bytes =
       given_all after rest d.bytes d.read d.all (omega (arith, ap length read, length-append first rest)) in
-      rw (read, front first rest h end, back first rest h end, a, e, ← d.state)
+      rw (read, front first rest h end, behind first rest h end, a, e, ← d.state)
       (Appends-trans held lined written _ _ d.lines w)

@@ -10,7 +10,8 @@ pub number_is : (calendar : List ℕ) (week : ℕ) → number_in (week_of calend
 unfolding week_refusal
 number_is c k = go (is (whole_records c)) (is (all_well_formed c)) (is (somebody_in c k))
   where
-    go : Is (whole_records c) → Is (all_well_formed c) → Is (somebody_in c k) → number_in (week_of c k) ≡ week_refusal c k
+    go : Is (whole_records c) → Is (all_well_formed c) → Is (somebody_in c k)
+        → number_in (week_of c k) ≡ week_refusal c k
     go (off w) f t = ap number_in (partial_13 c k w) ∙ sym (check_off _ _ _ w)
     go (on w) (off f) t = ap number_in (record_13 c k w f) ∙ sym (check_on _ _ _ w ∙ check_off _ _ _ f)
     go (on w) (on f) (off t) =

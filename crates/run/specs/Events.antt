@@ -14,8 +14,8 @@ use Rattle.process.specs.declared.Closing.{Closing}
 use Rattle.process.specs.Steps.{closing_of}
 
 -- the bench after the event: refused, as it was
-unfoldable pub moved : Event → Bench → Bench
-moved e s = select (same (refuses e s) 0) (effect e s) s
+unfoldable pub after_event : Event → Bench → Bench
+after_event e s = select (same (refuses e s) 0) (effect e s) s
 
 -- the verdict with a number: 0 accepts, with x
 unfoldable pub verdict_of : {A : Type 0} → ℕ → A → Result A Refusal

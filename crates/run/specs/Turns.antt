@@ -23,7 +23,7 @@ use Rattle.process.specs.Steps.{has_decided, open_round_of, start_of, next_of, f
 use Rattle.process.specs.Steps.{decides_of, advance_of, close_of, message_of, send_of, suspect_of, receive_of, adopt_of}
 use Rattle.refusal.specs.declared.Refusal.{Refusal}
 use Rattle.refusal.specs.Numbers.{refused, refusal_number}
-use Rattle.refusal.specs.NumberLaws.{refused_number}
+use Rattle.refusal.proofs.NumberLaws.{refused_number}
 use Rattle.bench.specs.declared.Bench.{Bench}
 use Rattle.bench.specs.declared.Message.{Message}
 use Rattle.bench.specs.declared.Message.TheVariants.{Estimate, Decision}
@@ -45,7 +45,7 @@ use Rattle.bench.specs.Closings.{closing_at, last_of}
 use Rattle.bench.specs.Calls.{answer_of, after_record, run_of}
 use Rattle.checks.specs.Checks.{first_failed, start_check, message_check, close_check}
 use Rattle.checks.specs.Checks.{crash_check, suspect_check, takes_started}
-use Rattle.run.specs.Events.{moved, verdict_of, closed_of}
+use Rattle.run.specs.Events.{after_event, verdict_of, closed_of}
 
 -- ---- an answer with a number k: accepted, the number is 0; refused, it is that of the refusal. So is any verdict
 module _ (k : ℕ) where
@@ -112,15 +112,15 @@ module _ {A B : Type 0} (k : ℕ) (x : A) (f : A → B) where
 
 -- ---- an event with the number k, which the code's check gives
 module _ (e : Event) (s : Bench) (k : ℕ) (p : refuses e s ≡ k) where
-  pub stays : (r : Refusal) → Err r ≡ answer_of k → s ≡ moved e s
-  unfolding moved
+  pub stays : (r : Refusal) → Err r ≡ answer_of k → s ≡ after_event e s
+  unfolding after_event
   stays r h = sym (select_off _ _ _ (rw p (answer_err k r h).0))
 
   pub same_answer : (x : Result (Unit {0}) Refusal) → x ≡ answer_of k → x ≡ answer_of (refuses e s)
   same_answer x h = rw p h
 
-  pub goes : Ok tt ≡ answer_of k → (d : Bench) → d ≡ effect e s → d ≡ moved e s
-  unfolding moved
+  pub goes : Ok tt ≡ answer_of k → (d : Bench) → d ≡ effect e s → d ≡ after_event e s
+  unfolding after_event
   goes h d q = q ∙ sym (select_on _ _ _ (same_mk _ 0 (p ∙ answer_ok k h)))
 
 -- ---- each event's check is that of the code, on the parts of the bench
@@ -324,11 +324,11 @@ module _ (s : Bench) (l : List ℕ) (h : sound_of s ≡ true) where
     numbered : refusal s l ≡ refuses e s
     numbered = refusal_event s l h e (sym d)
 
-    pub event_bench : moved e s ≡ after_record s l
-    unfolding moved effect_of effect_by effect_decoded decode_as
+    pub event_bench : after_event e s ≡ after_record s l
+    unfolding after_event effect_of effect_by effect_decoded decode_as
     event_bench = go (is (same (refuses e s) 0))
       where
-        go : Is (same (refuses e s) 0) → moved e s ≡ after_record s l
+        go : Is (same (refuses e s) 0) → after_event e s ≡ after_record s l
         go (on z) =
             select_on _ _ _ z
             ∙ sym (accepted_effect s l (numbered ∙ same_on _ 0 z) ∙ rw (sym d))
@@ -348,8 +348,8 @@ module _ (x t : List ℕ) where
   parted : (k : ℕ) → length x ≡ k → (x ≡ take k (x ++ t)) × (t ≡ drop k (x ++ t))
   parted k h = rw (← h) (sym (take-append_seam x t), sym (drop-append_seam x t))
 
-  pub chunk : (l : List ℕ) → l ≡ x ++ t → length x ≡ min 8 (length l) → (x ≡ take 8 l) × (t ≡ drop 8 l)
-  chunk l e h = ⊎_elim whole last (le-or 8 (length l))
+  pub next_record : (l : List ℕ) → l ≡ x ++ t → length x ≡ min 8 (length l) → (x ≡ take 8 l) × (t ≡ drop 8 l)
+  next_record l e h = ⊎_elim whole last (le-or 8 (length l))
     where
       whole : 8 ≤ length l → (x ≡ take 8 l) × (t ≡ drop 8 l)
       whole f = rw e (parted 8 (omega arith))
@@ -391,8 +391,8 @@ module _ (budget : ℕ) (l : List ℕ) (b s : Bench) (rest : List ℕ) (accepted
   ends_spent h e = sym (run_spent rest s accepted c (8 * accepted) (budget - accepted) h (omega arith)) ∙ w.gives
 
   module _ (h : length rest ≢ 0) (f : accepted ≢ budget) where
-    left : budget - accepted ≢ 0
-    left u = f (omega (arith, w.within_budget))
+    budget_left : budget - accepted ≢ 0
+    budget_left u = f (omega (arith, w.within_budget))
 
     -- the next record is refused, which leaves the bench as it is
     pub ends_refused : (r : Refusal) → Err r ≡ verdict_of (refusal s (take 8 rest)) (closing_in s (take 8 rest))
@@ -400,7 +400,7 @@ module _ (budget : ℕ) (l : List ℕ) (b s : Bench) (rest : List ℕ) (accepted
     ends_refused r v =
         let p = verdict_err _ _ r v in
         rw (p.1, refused-keeps s (take 8 rest) p.0)
-        (sym (run-refused rest s accepted c (8 * accepted) (budget - accepted) h left p.0) ∙ w.gives)
+        (sym (run-refused rest s accepted c (8 * accepted) (budget - accepted) h budget_left p.0) ∙ w.gives)
 
     -- it is accepted, and x tells how it ended a round
     pub goes_on : (x : Option Closing)
@@ -415,5 +415,5 @@ module _ (budget : ℕ) (l : List ℕ) (b s : Bench) (rest : List ℕ) (accepted
           within_budget = omega (arith, f, w.within_budget);
           gives =
               rw (p.1, ← one, ← eight, accepted_effect s (take 8 rest) p.0)
-              (sym (run_accepted rest s accepted c (8 * accepted) (budget - accepted) h left p.0) ∙ w.gives);
+              (sym (run_accepted rest s accepted c (8 * accepted) (budget - accepted) h budget_left p.0) ∙ w.gives);
         }

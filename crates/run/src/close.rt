@@ -3,7 +3,7 @@ ghost use Rattle.std.specs.Prelude.{◌≡◌, ◌+◌, ◌<◌, ◌≤◌};
 ghost use Rattle.bench.specs.declared.Event.TheVariants.{Close};
 ghost use Rattle.bench.specs.Refuse.{refuses};
 ghost use Rattle.bench.specs.State.{process_at};
-ghost use Rattle.run.specs.Events.{closed_of, moved, verdict_of};
+ghost use Rattle.run.specs.Events.{closed_of, after_event, verdict_of};
 
 use crate::events::row_index;
 use bench::Bench;
@@ -14,7 +14,7 @@ use refusal::Refusal;
 pub(crate) fn close_in(s: &mut Bench, a: usize) -> Result<Closing, Refusal>
     requires sizes { (a < 16) × (s.old.n ≤ 16) × (s.old.t < 16) }
     requires round { (process_at s.old a).round ≤ s.old.t + 1 }
-    ensures bench { s.new ≡ moved (Close a) s.old }
+    ensures bench { s.new ≡ after_event (Close a) s.old }
     ensures answer { result ≡ verdict_of (refuses (Close a) s.old) (closed_of a s.old) }
 {
     let p = s.processes[a];

@@ -5,7 +5,7 @@ ghost use Rattle.bench.specs.Refuse.{number_of, refuses};
 ghost use Rattle.bench.specs.Calls.{answer_of};
 ghost use Rattle.bench.specs.State.{process_at};
 ghost use Rattle.bench.proofs.RecordLaws.{MessageIn};
-ghost use Rattle.run.specs.Events.{moved};
+ghost use Rattle.run.specs.Events.{after_event};
 
 use bench::{Bench, Message};
 use checks::{crash_check, message_check, start_check, suspect_check};
@@ -39,7 +39,7 @@ fn number(m: Message) -> usize
 
 pub(crate) fn start_in(s: &mut Bench, a: usize, value: u32) -> Result<(), Refusal>
     requires { (a < 16) × (s.old.n ≤ 16) }
-    ensures bench { s.new ≡ moved (Start a value) s.old }
+    ensures bench { s.new ≡ after_event (Start a value) s.old }
     ensures answer { result ≡ answer_of (refuses (Start a value) s.old) }
 {
     let p = s.processes[a];
@@ -53,7 +53,7 @@ pub(crate) fn start_in(s: &mut Bench, a: usize, value: u32) -> Result<(), Refusa
 pub(crate) fn send_in(s: &mut Bench, a: usize, b: usize) -> Result<(), Refusal>
     requires bounds { (a < 16) × (b < 16) }
     requires round { (process_at s.old a).round ≤ 16 }
-    ensures bench { s.new ≡ moved (Send a b) s.old }
+    ensures bench { s.new ≡ after_event (Send a b) s.old }
     ensures answer { result ≡ answer_of (refuses (Send a b) s.old) }
 {
     let p = s.processes[a];
@@ -67,7 +67,7 @@ pub(crate) fn send_in(s: &mut Bench, a: usize, b: usize) -> Result<(), Refusal>
 pub(crate) fn arrive_in(s: &mut Bench, a: usize, b: usize, m: Message) -> Result<(), Refusal>
     requires bounds { (a < 16) × (b < 16) × (s.old.n ≤ 16) }
     requires message { MessageIn 15 m }
-    ensures bench { s.new ≡ moved (Arrive a b m) s.old }
+    ensures bench { s.new ≡ after_event (Arrive a b m) s.old }
     ensures answer { result ≡ answer_of (refuses (Arrive a b m) s.old) }
 {
     let i = set_index(a, number(m));
@@ -85,7 +85,7 @@ pub(crate) fn arrive_in(s: &mut Bench, a: usize, b: usize, m: Message) -> Result
 
 pub(crate) fn crash_in(s: &mut Bench, a: usize) -> Result<(), Refusal>
     requires { a < 16 }
-    ensures bench { s.new ≡ moved (Crash a) s.old }
+    ensures bench { s.new ≡ after_event (Crash a) s.old }
     ensures answer { result ≡ answer_of (refuses (Crash a) s.old) }
 {
     crash_check(s.crashed, a, s.t)?;
@@ -95,7 +95,7 @@ pub(crate) fn crash_in(s: &mut Bench, a: usize) -> Result<(), Refusal>
 
 pub(crate) fn suspect_in(s: &mut Bench, a: usize, b: usize) -> Result<(), Refusal>
     requires { (a < 16) × (b < 16) }
-    ensures bench { s.new ≡ moved (Suspect a b) s.old }
+    ensures bench { s.new ≡ after_event (Suspect a b) s.old }
     ensures answer { result ≡ answer_of (refuses (Suspect a b) s.old) }
 {
     let p = s.processes[a];

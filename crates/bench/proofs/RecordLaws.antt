@@ -14,7 +14,7 @@ use Rattle.global_data.specs.WordLaws.{fits_mk}
 use Rattle.refusal.specs.declared.Refusal.{Refusal}
 use Rattle.refusal.specs.declared.Refusal.TheVariants.{Length, Kind, Field, Diet}
 use Rattle.refusal.specs.Numbers.{refusal_number}
-use Rattle.refusal.specs.NumberLaws.{number_range}
+use Rattle.refusal.proofs.NumberLaws.{number_range}
 use Rattle.bench.specs.declared.Message.{Message}
 use Rattle.bench.specs.declared.Message.TheVariants.{Estimate, Decision}
 use Rattle.bench.specs.declared.Event.{Event}

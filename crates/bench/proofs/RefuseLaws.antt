@@ -10,7 +10,7 @@ use Rattle.sets.specs.TruthLaws.{or_mk_l, or_off_l, check_on, check_off, check-z
 use Rattle.sets.specs.TruthLaws.{Is, on, off, is, select_on, select_off, not_on, same_mk, same_off}
 use Rattle.refusal.specs.declared.Refusal.{Refusal}
 use Rattle.refusal.specs.Numbers.{refusal_number}
-use Rattle.refusal.specs.NumberLaws.{number_range}
+use Rattle.refusal.proofs.NumberLaws.{number_range}
 use Rattle.bench.specs.declared.Bench.{Bench}
 use Rattle.bench.specs.declared.Event.{Event}
 use Rattle.bench.specs.State.{crashed_at}

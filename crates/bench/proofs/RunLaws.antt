@@ -14,7 +14,7 @@ use Rattle.sets.specs.Truth.{same, select}
 use Rattle.sets.specs.TruthLaws.{Is, on, off, is, select_on, select_off, same_mk, same_off, eq-or, check_off}
 use Rattle.process.specs.declared.Closing.{Closing}
 use Rattle.refusal.specs.Numbers.{refusal_number, refused}
-use Rattle.refusal.specs.NumberLaws.{refused_number, number_refused}
+use Rattle.refusal.proofs.NumberLaws.{refused_number, number_refused}
 use Rattle.bench.specs.declared.Bench.{Bench}
 use Rattle.bench.specs.declared.Cause.{Cause}
 use Rattle.bench.specs.declared.Cause.TheVariants.{Empty, Spent, Refused}

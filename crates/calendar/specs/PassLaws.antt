@@ -1,5 +1,5 @@
 -- One pass over the records, in the words of the code's contracts. The laws are in ../proofs/PassLaws.antt.
-use Rattle.std.specs.Prelude.{◌≡◌, Bool, true, false, not, List, ℕ, ◌+◌, ◌<◌, length, get_or, Result, MatchResult}
+use Rattle.std.specs.Prelude.{◌≡◌, Bool, true, false, not, List, ℕ, ◌+◌, ◌-◌, ◌<◌, length, get_or, Result, MatchResult}
 use Rattle.sets.specs.Lists.{some_to}
 use Rattle.sets.specs.Set.{has, union_of, difference_of}
 use Rattle.sets.specs.Truth.{◌and◌, same, less, one_to}
@@ -63,14 +63,12 @@ MarksAll calendar monday r =
     × Marked calendar monday (periods_in calendar) sites)
     (λ e. (e ≡ Calendar) × ((whole_records calendar and all_well_formed calendar) ≡ false))
 
--- ---- a loop that collects the numbers that pass a test
-abbrev pub Collected : (ℕ → Bool) → ℕ → ℕ → Type 0
-Collected q i m = (k : ℕ) → has m k ≡ (less k i and q k)
+-- ---- after it
 
 -- a day of term that is not closed
 unfoldable pub some_day : Marks → Bool
 some_day m = not (same (difference_of m.term m.closed) 0)
 
--- of the site at i
-abbrev pub some_day_at : List Marks → ℕ → Bool
-some_day_at sites i = some_day (get_or sites i no_marks)
+-- a site has such a day
+abbrev pub open_in : List Marks → ℕ → Bool
+open_in sites site = some_day (get_or sites (site - 1) no_marks)

@@ -8,8 +8,8 @@ ghost use Rattle.global_data.specs.GlobalData.{portions_of, diet_of, value_in, d
 ghost use Rattle.global_data.specs.GlobalData.{nothing_of, one_of, fill_of, same_to, fill_from, all_same};
 ghost use Rattle.global_data.specs.Rows.{Gives};
 
-// A value: portions, and the diet portions among them.
-#[derive(Clone, Copy)]
+// A value: portions, and the diet portions among them. Values are ordered by portions, then by diet portions.
+#[derive(Clone, Copy, PartialEq, Eq, PartialOrd, Ord)]
 pub struct Value {
     pub portions: u16,
     pub diet: u16,

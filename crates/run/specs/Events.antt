@@ -24,11 +24,3 @@ verdict_of k x = select (same k 0) (Ok x) (Err (refused k))
 -- how the round of a ends where it closes
 unfoldable pub closed_of : ℕ → Bench → Closing
 closed_of a s = closing_of s.n s.t a (rows_at s (process_at s a).round) (process_at s a)
-
--- the rows of round r + 1, where they lie
-abbrev pub rows_in : List GlobalData → ℕ → ℕ → GlobalData
-rows_in sent r y = get_or sent (y * 16 + r) no_data
-
--- words with their marks
-abbrev pub marked : ℕ → List ℕ → GlobalData
-marked m words = record { present = m; values = words }

@@ -23,7 +23,7 @@ use Rattle.process.specs.Steps.{has_decided, open_round_of, start_of, next_of, f
 use Rattle.process.specs.Steps.{decides_of, advance_of, close_of, message_of, send_of, suspect_of, receive_of, adopt_of}
 use Rattle.refusal.specs.declared.Refusal.{Refusal}
 use Rattle.refusal.specs.Numbers.{refused, refusal_number}
-use Rattle.refusal.specs.NumberLaws.{refused_number}
+use Rattle.refusal.proofs.NumberLaws.{refused_number}
 use Rattle.bench.specs.declared.Bench.{Bench}
 use Rattle.bench.specs.declared.Message.{Message}
 use Rattle.bench.specs.declared.Message.TheVariants.{Estimate, Decision}
@@ -45,7 +45,7 @@ use Rattle.bench.specs.Closings.{closing_at, last_of}
 use Rattle.bench.specs.Calls.{answer_of, after_record, run_of}
 use Rattle.checks.specs.Checks.{first_failed, start_check, message_check, close_check}
 use Rattle.checks.specs.Checks.{crash_check, suspect_check, takes_started}
-use Rattle.run.specs.Events.{moved, verdict_of, closed_of, rows_in, marked}
+use Rattle.run.specs.Events.{moved, verdict_of, closed_of}
 
 -- ---- an answer with a number k: accepted, the number is 0; refused, it is that of the refusal. So is any verdict
 module _ (k : ℕ) where
@@ -274,24 +274,6 @@ module _ (s : Bench) where
   unfolding effect
   effect_suspect a b p h = ap (with_process s a) h
 
--- ---- the rows of a round: the one at i, where the pass has come to, is of that round
-pub row_at : (sent : List GlobalData) (r i : ℕ) → i % 16 ≡ r → get_or sent i no_data ≡ rows_in sent r (i / 16)
-row_at sent r i e = ap (λ (k : ℕ). get_or sent k no_data) (omega arith)
-
--- a row that is stored whole, and then its marks
-remarked : (l : List GlobalData) (j m : ℕ) (g : GlobalData)
-    → set (set l j g) j (marked m (get_or (set l j g) j no_data).values) ≡ set l j (marked m g.values)
-remarked [] j m g = refl
-remarked (x ∷ l) zero m g = refl
-remarked (x ∷ l) (suc j) m g = ap (λ (r : List GlobalData). x ∷ r) (remarked l j m g)
-
--- a has opened a round as p, whose row was stored so
-pub opened_marked : (s : Bench) (a j m : ℕ) (g : GlobalData) (p : Process)
-    → bench_of s.n s.t s.crashed (set s.processes a (with_estimate (marked m g.values) p))
-    (set (set s.sent j g) j (marked m (get_or (set s.sent j g) j no_data).values)) s.in_transit
-    ≡ opened_at s a j (with_estimate (marked m g.values) p)
-opened_marked s a j m g p = rw (remarked s.sent j m g)
-
 -- ---- what a close of a comes to: q is the process then, x the code's closing
 pub record Closes (x : Closing) (s : Bench) (a : ℕ) (q : Process) : Type 0 where
   pub closing : x ≡ closed_of a s
@@ -299,52 +281,25 @@ pub record Closes (x : Closing) (s : Bench) (a : ℕ) (q : Process) : Type 0 whe
   pub opens : has_decided q ≡ false → (j : ℕ) → j ≡ a * 16 + (q.round - 1) → opened_at s a j q ≡ effect (Close a) s
   pub round : has_decided q ≡ false → s.t < 16 → (process_at s a).round ≤ s.t + 1 → (1 ≤ q.round) × (q.round ≤ 16)
 
--- once its pass is made: `next` is the code's next set, and q what it makes of a but for the estimate
-module _ (x : Closing) (s : Bench) (a r next m : ℕ) (g : GlobalData) (alike : Bool) (q : Process)
-    (e : r ≡ (process_at s a).round - 1) (f : next ≡ next_of a (process_at s a)) (h : m ≡ remove_of next a)
-    (b : m < 2 ^ 16) (fills : g ≡ fill_from 16 m (rows_in s.sent r) (process_at s a).estimate)
-    (compares : alike ≡ all_same 16 s.n m (rows_in s.sent r) (process_at s a).estimate)
-    (few : s.n ≤ 16) (k : (q ≡ finish_of s.n s.t a next alike (process_at s a))
-    × (x ≡ closing_by s.t next alike (process_at s a))) where
-  abbrev rows : ℕ → GlobalData
-  rows = rows_at s (process_at s a).round
-
-  abbrev after : Process
-  after = with_estimate g q
-
-  passed : Passing s.n m (rows_in s.sent r) (process_at s a).estimate 16 0 g alike
-  passed =
-      record {
-        few = b;
-        within = omega arith;
-        others = sym (div-eq_of_lt {n = m} {m = 2 ^ 16} b);
-        fills = fills;
-        compares = compares;
-      }
-
-  -- the process and the closing are those of the definitions, on the rows of the round
-  closed : (after ≡ close_of s.n s.t a rows (process_at s a))
-      × (x ≡ closing_of s.n s.t a rows (process_at s a))
-  unfolding rows_at sent_at
-  closed = close_passed s.n s.t a rows (process_at s a) next 16 g alike q x f (rw (e, h) at passed) few k
-
-  opened : has_decided after ≡ false → (after.round ≡ (process_at s a).round + 1) × ((process_at s a).round ≢ s.t + 1)
+-- once it is made: the process and the closing are those of the definitions, on the rows of the round
+module _ (x : Closing) (s : Bench) (a : ℕ) (q : Process)
+    (closed : (q ≡ close_of s.n s.t a (rows_at s (process_at s a).round) (process_at s a)) × (x ≡ closed_of a s)) where
+  opened : has_decided q ≡ false → (q.round ≡ (process_at s a).round + 1) × ((process_at s a).round ≢ s.t + 1)
   opened d =
       subst (λ (p : Process). (p.round ≡ (process_at s a).round + 1) × ((process_at s a).round ≢ s.t + 1)) (sym closed.0)
-      (close_opens s.n s.t a rows (process_at s a) (subst (λ (p : Process). has_decided p ≡ false) closed.0 d))
+      (close_opens s.n s.t a (rows_at s (process_at s a).round) (process_at s a)
+      (subst (λ (p : Process). has_decided p ≡ false) closed.0 d))
 
-  pub closes : Closes x s a after
-  unfolding effect closes_as closed_of
+  pub closes : Closes x s a q
+  unfolding effect closes_as
   closes =
       record {
         closing = closed.1;
-        decides =
-            λ d.
-            rw (← closed.0) (sym (select_on (has_decided after) (with_process s a after) (opens_round s a after) d));
+        decides = λ d. rw (← closed.0) (sym (select_on (has_decided q) (with_process s a q) (opens_round s a q) d));
         opens =
-            λ d i j.
-            opened_at_lem s a i after j
-            ∙ rw (← closed.0) (sym (select_off (has_decided after) (with_process s a after) (opens_round s a after) d));
+            λ d j e.
+            opened_at_lem s a j q e
+            ∙ rw (← closed.0) (sym (select_off (has_decided q) (with_process s a q) (opens_round s a q) d));
         round = λ d l m. omega (arith, (opened d).0, (opened d).1);
       }
 

@@ -45,8 +45,8 @@ pub(crate) fn start_in(s: &mut Bench, a: usize, value: u32) -> Result<(), Refusa
     let p = s.processes[a];
     start_check(s.crashed, a, p.round)?;
     let q = p.start(s.n as usize, a, value);
-    s.sent[row_index(a, q.round)] = q.estimate;
     s.processes[a] = q;
+    s.sent[row_index(a, q.round)] = q.estimate;
     Ok(())
 }
 
@@ -59,8 +59,8 @@ pub(crate) fn send_in(s: &mut Bench, a: usize, b: usize) -> Result<(), Refusal>
     let p = s.processes[a];
     message_check(s.crashed, a, p.outbox, b)?;
     let i = set_index(a, p.message());
-    s.in_transit[i] = sets::insert(s.in_transit[i], b);
     s.processes[a] = p.send(b);
+    s.in_transit[i] = sets::insert(s.in_transit[i], b);
     Ok(())
 }
 
@@ -74,10 +74,12 @@ pub(crate) fn arrive_in(s: &mut Bench, a: usize, b: usize, m: Message) -> Result
     message_check(s.crashed, b, s.in_transit[i], b)?;
     s.in_transit[i] = sets::remove(s.in_transit[i], b);
     let p = s.processes[b];
-    s.processes[b] = match m {
-        Message::Estimate { round } => p.receive(a, round),
-        Message::Decision => p.adopt(s.n as usize, b, a, s.processes[a].estimate),
-    };
+    match m {
+        Message::Estimate { round } => s.processes[b] = p.receive(a, round),
+        Message::Decision => {
+            s.processes[b] = p.adopt(s.n as usize, b, a, s.processes[a].estimate);
+        }
+    }
     Ok(())
 }
 

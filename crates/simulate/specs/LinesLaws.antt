@@ -3,7 +3,10 @@
 -- it is, and the next run begins after it.
 use Rattle.std.specs.Prelude.{◌≡◌, ◌≢◌, true, Option, None}
 use Rattle.std.proofs.Math.Path.{refl, sym, ap}
-use Rattle.std.proofs.Common.{ap₂, ◌∙◌, add-zero, drop-drop}
+use Rattle.std.proofs.Common.{ap₂, ◌∙◌, ◌^◌, add-zero, drop-drop}
+use Rattle.std.specs.Prelude.{Option}
+use Rattle.std.specs.Io.KnownBytes.{Consumes, Appends, IsAtEnd}
+use Rattle.std.proofs.KnownBytes.{Consumes-nil, Consumes-trans, Appends-nil, Appends-trans}
 use mathlib.Core.List.{List, [], ◌∷◌, ◌++◌, append_assoc, append-nil}
 use Prim.Native.Nat.{ℕ, zero, suc, ◌+◌, ◌-◌, ◌*◌, ◌/◌, ◌≤◌, ◌<◌}
 use native.Mathlib.Omega.{arith}
@@ -104,6 +107,14 @@ unfoldable pub refused_in : Cause → ℕ
 refused_in Empty = 0
 refused_in Spent = 0
 refused_in (Refused r) = 1
+
+-- neither, where it refused none
+pub none_refused : (c : Cause) → ((r : Refusal) → c ≡ Refused r → ⊥)
+    → (refused_in c ≡ 0) × ((k : ℕ) → cause_text k c ≡ [])
+unfolding refused_in cause_text
+none_refused Empty h = (refl, λ k. refl)
+none_refused Spent h = (refl, λ k. refl)
+none_refused (Refused r) h = absurd (h r refl)
 
 -- the lines of accepted records
 unfoldable pub accepted_text : ℕ → ℕ → List ℕ
@@ -256,33 +267,66 @@ pub reached_sound : (b s : Bench) → Reached b s → sound_of b ≡ true → so
 unfolding after_all
 reached_sound b s r h = rw r.state (sound_steps (records_in r.bytes) b r.bytes h)
 
--- all the parts so far are whole records, and the next one has the number `first`
-pub record Carried (b s : Bench) (first : ℕ) : Type 0 where
+-- a reader's bytes before and after, and a writer's: all the bytes, of which there are fewer than so many that no run
+-- reads them, and the lines of their records
+pub record Answered (b s : Bench) (before after held written : Option (List ℕ)) : Type 0 where
   pub bytes : List ℕ
-  pub whole : length bytes + 8 ≡ 8 * first
+  pub read : Consumes before after bytes
+  pub all : length bytes < 2 ^ 66 → IsAtEnd after
   pub state : s ≡ after_all b bytes
+  pub lines : Appends held written (lines_of b 1 bytes)
 
-pub carried_none : (b : Bench) → Carried b b 1
-unfolding after_all records_in steps
-carried_none b = record { bytes = []; whole = refl; state = refl }
+pub answered_reached : {b s : Bench} {before after held written : Option (List ℕ)} → Answered b s before after held written
+    → Reached b s
+answered_reached a = record { bytes = a.bytes; state = a.state }
 
-module _ {b s : Bench} {first : ℕ} (c : Carried b s first) (part : List ℕ) (s' : Bench)
-    (e : s' ≡ after_all s part) where
-  carried_state : s' ≡ after_all b (c.bytes ++ part)
-  carried_state =
-      e ∙ ap (λ (s : Bench). after_all s part) c.state
-      ∙ sym (after-append b first (first - 1) c.bytes part (omega (arith, c.whole)))
+-- all the parts so far are whole: each has 8192 bytes, which are 1024 records
+pub record Carried (b s : Bench) (before after held written : Option (List ℕ)) (parts : ℕ) : Type 0 where
+  pub bytes : List ℕ
+  pub whole : length bytes ≡ 8192 * parts
+  pub read : Consumes before after bytes
+  pub state : s ≡ after_all b bytes
+  pub lines : Appends held written (lines_of b 1 bytes)
 
-  pub carried_reached : Reached b s'
-  carried_reached = record { bytes = c.bytes ++ part; state = carried_state }
+pub carried_none : (b : Bench) (before held : Option (List ℕ)) → Carried b b before before held held 0
+unfolding after_all records_in steps lines_of joined
+carried_none b before held =
+    record { bytes = []; whole = refl; read = Consumes-nil before; state = refl; lines = Appends-nil held }
 
-  pub carried_next : length part ≡ 8192 → Carried b s' (first + 1024)
+module _ {b s : Bench} {before after held written : Option (List ℕ)} {parts : ℕ}
+    (c : Carried b s before after held written parts) (part : List ℕ) (s' : Bench) (after' written' : Option (List ℕ))
+    (read : Consumes after after' part) (state : s' ≡ after_all s part)
+    (lines : Appends written written' (lines_of s (parts * 1024 + 1) part)) where
+  whole_records : length c.bytes ≡ 8 * (1024 * parts)
+  whole_records = omega (arith, c.whole)
+
+  read_next : Consumes before after' (c.bytes ++ part)
+  read_next = Consumes-trans before after after' c.bytes part c.read read
+
+  state_next : s' ≡ after_all b (c.bytes ++ part)
+  state_next =
+      state ∙ ap (λ (s : Bench). after_all s part) c.state
+      ∙ sym (after-append b 1 (1024 * parts) c.bytes part whole_records)
+
+  lines_next : Appends held written' (lines_of b 1 (c.bytes ++ part))
+  lines_next =
+      let n : 1 + 1024 * parts ≡ parts * 1024 + 1 = omega arith in
+      rw (lines_append b 1 (1024 * parts) c.bytes part whole_records, n, ← c.state)
+      (Appends-trans held written written' _ _ c.lines lines)
+
+  pub carried_next : length part ≡ 8192 → Carried b s' before after' held written' (parts + 1)
   carried_next h =
       record {
         bytes = c.bytes ++ part;
         whole = omega (arith, c.whole, length-append c.bytes part);
-        state = carried_state;
+        read = read_next;
+        state = state_next;
+        lines = lines_next;
       }
+
+  pub carried_last : IsAtEnd after' → Answered b s' before after' held written'
+  carried_last end =
+      record { bytes = c.bytes ++ part; read = read_next; all = λ h. end; state = state_next; lines = lines_next }
 
 -- ---- the input in parts, of whole records but for the last: what is written part by part,
 -- and the processes then, is what the whole gives

@@ -16,7 +16,10 @@ fn write_accepted<W: Write>(out: &mut W, first: u64, accepted: u32) -> io::Resul
     ensures { OnOk result (Appends (W.contents out.old) (W.contents out.new) (accepted_text first accepted)) }
 {
     for number in first..first + u64::from(accepted) {
-        let line = Line { number, refusal: None };
+        let line = Line {
+            number,
+            refusal: None,
+        };
         write!(out, "{line}")?;
     }
     Ok(())

@@ -34,10 +34,10 @@ returns g c =
     rw c.opening.ensures (rw (take-append-le c.in_ok-read.read c.read_full.new.buf _ read.bound.0)) in
     on_ok _
     (elim c.match-opening.branch [
-      in-Ok+in_ok-bench-in-Ok+in_ok-write-in-Ok w ↦
-        output_opened first most _ _ _ _ _ _ _ _ read.bytes end (opened ∙ w.in-Ok.is) w.in_ok-bench-in-Ok.ensures
-        (Appends-kept _ _ _ _ w.in_ok-write-in-Ok.ensures.bytes (rw w.out-is at c.flush.ensures.bytes))
+      | in-Ok+in_ok-bench-in-Ok+in_ok-write-in-Ok w ↦
+          output_opened first most _ _ _ _ _ _ _ _ read.bytes end (opened ∙ w.in-Ok.is) w.in_ok-bench-in-Ok.ensures
+          (Appends-kept _ _ _ _ w.in_ok-write-in-Ok.ensures.bytes (rw w.out-is at c.flush.ensures.bytes))
       | in-Err+in_ok-write-in-Err w ↦
-        output_refused first most _ _ _ _ _ read.bytes end (opened ∙ w.in-Err.is)
-        (Appends-kept _ _ _ _ w.in_ok-write-in-Err.ensures.bytes (rw w.out-is at c.flush.ensures.bytes))
+          output_refused first most _ _ _ _ _ read.bytes end (opened ∙ w.in-Err.is)
+          (Appends-kept _ _ _ _ w.in_ok-write-in-Err.ensures.bytes (rw w.out-is at c.flush.ensures.bytes))
     ])

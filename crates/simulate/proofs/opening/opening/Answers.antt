@@ -23,9 +23,9 @@ returns-then-r-ne0 c =
     let l : length c.args.bytes.now ≡ 8 = omega (arith, c.in-len8.len_at_least, c.in-len8.len_below) in
     let k = c.if-kind-ne0.false in
     elim c.then-r-ne0.branch [
-      then-r-ne0-via-then-r-ne0 w ↦ sym (opening_r _ l k w.if-r-ne0.true)
+      | then-r-ne0-via-then-r-ne0 w ↦ sym (opening_r _ l k w.if-r-ne0.true)
       | then-r-ne0-via-else-r-ne0+then-from_le_bytes-ne0 w ↦
-        sym (opening_value _ l k (same_off _ _ (λ z. w.if-from_le_bytes-ne0.true (w.from_le_bytes.ensures ∙ z))))
+          sym (opening_value _ l k (same_off _ _ (λ z. w.if-from_le_bytes-ne0.true (w.from_le_bytes.ensures ∙ z))))
     ]
 
 pub returns : goal.returns

@@ -4,6 +4,8 @@
 
 mod lines;
 mod opening;
+#[cfg(test)]
+mod tests;
 
 ghost use Rattle.std.specs.Prelude.{◌^◌, ◌<◌, length, IfSome, IfOk, OnOk};
 ghost use Rattle.std.specs.Io.KnownBytes.{Appends};
@@ -45,7 +47,7 @@ fn answer_all<R: Read, W: Write>(
 
 // The opening record, and then either all the others and the processes, or the one line of its refusal.
 // What is written of an input is the output that document 01 gives.
-fn simulate<R: Read, W: Write>(
+pub fn simulate<R: Read, W: Write>(
     input: &mut R,
     out: &mut W,
     buffer: &mut [u8; 8192],

@@ -8,7 +8,11 @@ abbrev pub answer_number : {A : Type 0} → Result A Refusal → ℕ
 answer_number (Ok x) = 0
 answer_number (Err r) = refusal_number r
 
--- what is given, or what was there
+-- f is the word of what is given; a refusal leaves what was there
+abbrev pub word_in : {A B : Type 0} → (A → B) → Result A Refusal → B → B
+word_in f (Ok x) old = f x
+word_in f (Err r) old = old
+
+-- what is given is the word
 abbrev pub stored_in : {A : Type 0} → Result A Refusal → A → A
-stored_in (Ok x) old = x
-stored_in (Err r) old = old
+stored_in a old = word_in (λ x. x) a old

@@ -1,7 +1,5 @@
 -- What an event comes to, whether it is accepted or refused.
-use Rattle.std.specs.Prelude.{List, ℕ, ◌+◌, ◌*◌, get_or, Result, Ok, Err}
-use Rattle.global_data.specs.declared.GlobalData.{GlobalData}
-use Rattle.global_data.specs.GlobalData.{no_data}
+use Rattle.std.specs.Prelude.{ℕ, Result, Ok, Err}
 use Rattle.sets.specs.Truth.{same, select}
 use Rattle.refusal.specs.declared.Refusal.{Refusal}
 use Rattle.refusal.specs.Numbers.{refused}

@@ -1,25 +1,19 @@
 -- What the laws of bench say of run's code, with the parts of the bench named that it reads and stores: each event's
 -- check and effect, and a turn of the loop.
-use Rattle.std.specs.Prelude.{◌≡◌, ◌≢◌, List, [], ◌∷◌, Bool, true, false, ℕ, zero, suc, ◌+◌, ◌-◌, ◌*◌, ◌/◌, ◌%◌, ◌^◌, ◌≤◌, ◌<◌, length, get_or, set, take, drop, ◌++◌, min, Result, Ok, Err, Option, Some, None}
+use Rattle.std.specs.Prelude.{◌≡◌, ◌≢◌, List, true, false, ℕ, ◌+◌, ◌-◌, ◌*◌, ◌≤◌, ◌<◌, length, get_or, set, take, drop, ◌++◌, min, Result, Ok, Err, Option, Some, None}
 use Rattle.std.proofs.Math.Path.{refl, sym, ap, subst}
 use Rattle.std.proofs.Common.{◌∙◌, ⊎_elim, take_all, drop_of_length-le}
 use Rattle.std.proofs.Math.Seq.{take-append_seam, drop-append_seam, take-length}
 use Rattle.std.specs.Option.{option_or}
-use Rattle.std.proofs.Math.Nat.{div-eq_of_lt}
 use native.Mathlib.Omega.{arith}
 use Rattle.sets.specs.Set.{insert_of, remove_of}
 use Rattle.sets.specs.Truth.{select, same, ◌or◌}
 use Rattle.sets.specs.TruthLaws.{and_first, Is, on, off, is, clash, select_on, select_off, check-zero, same_on, same_off, same_not, same_mk, le-or}
 use Rattle.global_data.specs.declared.GlobalData.{GlobalData}
-use Rattle.global_data.specs.GlobalData.{no_data, fill_from, all_same}
-use Rattle.global_data.proofs.PassLaws.{Passing}
 use Rattle.process.specs.declared.Process.{Process}
 use Rattle.process.specs.declared.Closing.{Closing}
 use Rattle.process.specs.Laws.{decide_decided, open_round}
-use Rattle.process.specs.Fields.{with_estimate}
-use Rattle.process.specs.ClosingLaws.{closing_by, finish_of}
-use Rattle.process.proofs.ClosingLaws.{close_passed}
-use Rattle.process.specs.Steps.{has_decided, open_round_of, start_of, next_of, filled_of, closing_of}
+use Rattle.process.specs.Steps.{has_decided, open_round_of, start_of, filled_of}
 use Rattle.process.specs.Steps.{decides_of, advance_of, close_of, message_of, send_of, suspect_of, receive_of, adopt_of}
 use Rattle.refusal.specs.declared.Refusal.{Refusal}
 use Rattle.refusal.specs.Numbers.{refused, refusal_number}
@@ -29,9 +23,9 @@ use Rattle.bench.specs.declared.Message.{Message}
 use Rattle.bench.specs.declared.Message.TheVariants.{Estimate, Decision}
 use Rattle.bench.specs.declared.Event.{Event}
 use Rattle.bench.specs.declared.Event.TheVariants.{Start, Send, Arrive, Close, Crash, Suspect}
-use Rattle.bench.specs.State.{bench_of, process_at, sent_at, transit_at, crashed_at, with_process, with_sent, with_transit, with_crashed}
+use Rattle.bench.specs.State.{bench_of, process_at, transit_at, crashed_at, with_process, with_sent, with_transit, with_crashed}
 use Rattle.bench.specs.Sound.{sound_of}
-use Rattle.bench.proofs.SoundLaws.{Bounds, sound_on, sound_step}
+use Rattle.bench.proofs.SoundLaws.{sound_on, sound_step}
 use Rattle.bench.proofs.RecordLaws.{MessageIn, InRange, decode_refused}
 use Rattle.bench.specs.Record.{decode_of, v2, decode_as}
 use Rattle.bench.proofs.RefuseLaws.{refusal_unread, refusal_event, refused-keeps, accepted_effect}
@@ -43,38 +37,11 @@ use Rattle.bench.specs.Refuse.{number_of, actor, is_crash, passes7, passes8, pas
 use Rattle.bench.specs.Effect.{opens_round, rows_at, sends, arrives, closes_as, effect}
 use Rattle.bench.specs.Closings.{closing_at, last_of}
 use Rattle.bench.specs.Calls.{answer_of, after_record, run_of}
-use Rattle.checks.specs.Checks.{first_failed, start_check, message_check, close_check}
+use Rattle.checks.specs.Checks.{start_check, message_check, close_check}
 use Rattle.checks.specs.Checks.{crash_check, suspect_check, takes_started}
 use Rattle.run.specs.Events.{after_event, verdict_of, closed_of}
 
--- ---- an answer with a number k: accepted, the number is 0; refused, it is that of the refusal. So is any verdict
-module _ (k : ℕ) where
-  pub answer_ok : Ok tt ≡ answer_of k → k ≡ 0
-  unfolding answer_of
-  answer_ok h = go (is (same k 0))
-    where
-      go : Is (same k 0) → k ≡ 0
-      go (on e) = same_on k 0 e
-      go (off e) = let p : Ok tt ≡ Err (refused k) = h ∙ select_off _ _ _ e in absurd (cc p)
-
-  pub answer_err : (r : Refusal) → Err r ≡ answer_of k → (same k 0 ≡ false) × (r ≡ refused k)
-  unfolding answer_of
-  answer_err r h = go (is (same k 0))
-    where
-      go : Is (same k 0) → (same k 0 ≡ false) × (r ≡ refused k)
-      go (on e) = let p : Err r ≡ Ok tt = h ∙ select_on _ _ _ e in absurd (cc p)
-      go (off e) = (e, cc (h ∙ select_off (same k 0) (Ok tt) (Err (refused k)) e))
-
-  module _ {A : Type 0} (x : A) where
-    pub accepted_as : Ok tt ≡ answer_of k → Ok x ≡ verdict_of k x
-    unfolding verdict_of
-    accepted_as h = sym (select_on _ _ _ (same_mk k 0 (answer_ok h)))
-
-    pub refused_as : (r : Refusal) → Err r ≡ answer_of k → Err r ≡ verdict_of k x
-    unfolding verdict_of
-    refused_as r h = let e = answer_err r h in ap Err e.1 ∙ sym (select_off _ _ _ e.0)
-
--- ---- a verdict with a number k
+-- ---- a verdict with a number k: accepted, the number is 0; refused, it is that of the refusal
 module _ {A : Type 0} (k : ℕ) (x : A) where
   pub verdict_ok : (z : A) → Ok z ≡ verdict_of k x → (k ≡ 0) × (z ≡ x)
   unfolding verdict_of
@@ -92,29 +59,45 @@ module _ {A : Type 0} (k : ℕ) (x : A) where
       go (on e) = let p : Err r ≡ Ok x = h ∙ select_on _ _ _ e in absurd (cc p)
       go (off e) = let p : Err r ≡ Err (refused k) = h ∙ select_off _ _ _ e in (same_not k 0 e, cc p)
 
--- a verdict told on: the same refusal, or f of what was accepted
+  accepts : k ≡ 0 → Ok x ≡ verdict_of k x
+  unfolding verdict_of
+  accepts z = sym (select_on _ _ _ (same_mk k 0 z))
+
+  refuses_by : (r : Refusal) → (k ≢ 0) × (r ≡ refused k) → Err r ≡ verdict_of k x
+  unfolding verdict_of
+  refuses_by r e = ap Err e.1 ∙ sym (select_off _ _ _ (same_off k 0 e.0))
+
+-- told on: the same refusal, or f of what was accepted
 module _ {A B : Type 0} (k : ℕ) (x : A) (f : A → B) where
   pub told_err : (r : Refusal) → Err r ≡ verdict_of k x → Err r ≡ verdict_of k (f x)
-  unfolding verdict_of select
-  told_err r h = go (is (same k 0))
-    where
-      go : Is (same k 0) → Err r ≡ verdict_of k (f x)
-      go (on e) = let p : Err r ≡ Ok x = h ∙ select_on _ _ _ e in absurd (cc p)
-      go (off e) = let p : Err r ≡ Err (refused k) = h ∙ select_off _ _ _ e in let q : r ≡ refused k = cc p in rw (e, q)
+  told_err r h = refuses_by k (f x) r (verdict_err k x r h)
 
   pub told_ok : (z : A) → Ok z ≡ verdict_of k x → Ok (f z) ≡ verdict_of k (f x)
-  unfolding verdict_of select
-  told_ok z h = go (is (same k 0))
-    where
-      go : Is (same k 0) → Ok (f z) ≡ verdict_of k (f x)
-      go (on e) = let p : Ok z ≡ Ok x = h ∙ select_on _ _ _ e in let q : z ≡ x = cc p in rw (e, q)
-      go (off e) = let p : Ok z ≡ Err (refused k) = h ∙ select_off _ _ _ e in absurd (cc p)
+  told_ok z h = let e = verdict_ok k x z h in ap (λ (y : A). Ok (f y)) e.1 ∙ accepts k (f x) e.0
+
+-- an answer is a verdict that tells nothing
+module _ (k : ℕ) where
+  answer_is : answer_of k ≡ verdict_of k tt
+  unfolding answer_of verdict_of
+  answer_is = refl
+
+  pub answer_ok : Ok tt ≡ answer_of k → k ≡ 0
+  answer_ok h = (verdict_ok k tt tt (h ∙ answer_is)).0
+
+  pub answer_err : (r : Refusal) → Err r ≡ answer_of k → (k ≢ 0) × (r ≡ refused k)
+  answer_err r h = verdict_err k tt r (h ∙ answer_is)
+
+  pub accepted_as : {A : Type 0} (x : A) → Ok tt ≡ answer_of k → Ok x ≡ verdict_of k x
+  accepted_as x h = accepts k x (answer_ok h)
+
+  pub refused_as : {A : Type 0} (x : A) (r : Refusal) → Err r ≡ answer_of k → Err r ≡ verdict_of k x
+  refused_as x r h = refuses_by k x r (answer_err r h)
 
 -- ---- an event with the number k, which the code's check gives
 module _ (e : Event) (s : Bench) (k : ℕ) (p : refuses e s ≡ k) where
   pub stays : (r : Refusal) → Err r ≡ answer_of k → s ≡ after_event e s
   unfolding after_event
-  stays r h = sym (select_off _ _ _ (rw p (answer_err k r h).0))
+  stays r h = sym (select_off _ _ _ (same_off _ 0 (λ z. (answer_err k r h).0 (sym p ∙ z))))
 
   pub same_answer : (x : Result (Unit {0}) Refusal) → x ≡ answer_of k → x ≡ answer_of (refuses e s)
   same_answer x h = rw p h

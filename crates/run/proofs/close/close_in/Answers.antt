@@ -1,6 +1,6 @@
 -- By the check's answer: refused, nothing is stored; accepted, the pass over the rows, `finish` and what is stored are
 -- the close.
-use Rattle.std.proofs.Common.{◌≡◌, sym, refl, ◌∙◌, arith, rules}
+use Rattle.std.proofs.Common.{sym, ◌∙◌, arith, rules}
 use Rattle.std.proofs.iter.Serving.{serving}
 use Rattle.std.proofs.lemmas.Result.{err_from_is_err_and}
 use Rattle.bench.specs.State.{process_at, sent_at, with_process}

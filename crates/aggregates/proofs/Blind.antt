@@ -1,7 +1,8 @@
 -- Of any call, refused or not: nothing under an absent entry is read, and no standing value of a present one.
 -- Entries that agree under the present marks have one view, by which each call answers; standing values that agree
 -- where no mark is set add up alike.
-use Rattle.std.specs.Prelude.{◌≡◌, ◌⊎◌, Bool, not, List, get_or, length}
+use Rattle.std.specs.Prelude.{◌≡◌, ◌⊎◌, Bool, not, Ok, List, get_or, length}
+use Rattle.std.specs.Result.{result_and}
 use Rattle.std.proofs.Math.Path.{sym, ap, ap₂, fun_ext}
 use Rattle.std.proofs.Common.{◌∙◌, inl, inr, arith}
 use Rattle.std.proofs.Math.Bool.{true}
@@ -11,11 +12,10 @@ use Rattle.sets.specs.Lists.{sum_to}
 use Rattle.sets.specs.Set.{has}
 use Rattle.sets.specs.Truth.{same, one_to}
 use Rattle.sets.specs.TruthLaws.{select_on, select_off, Is, is, on, off, le-or}
-use Rattle.global_data.specs.declared.Entry.{Entry}
-use Rattle.aggregates.specs.Answers.{gives}
+use Rattle.global_data.specs.GlobalData.{Entry}
 use Rattle.aggregates.specs.Entries.{entry_at, standing_at, counts_for}
 use Rattle.aggregates.specs.Leader.{leader_to}
-use Rattle.aggregates.specs.Aggregates.{refusal_of, unless, total_to, go, led}
+use Rattle.aggregates.specs.Aggregates.{refusal_of, total_to, go, led}
 use Rattle.aggregates.specs.Aggregates.{changed, total_of, go_of, lead_of, change_of}
 use Rattle.aggregates.proofs.TotalLaws.{counts_is}
 
@@ -45,10 +45,10 @@ module _ (n marks : ℕ) (ss ts : List ℕ) (h : Alike (λ i. not (has marks i))
   pub standing_blind : (entries : List ℕ) → total_of n entries marks ss ≡ total_of n entries marks ts
   unfolding total_of
   standing_blind entries =
-      ap (λ l. unless (refusal_of n marks true (same l n) entries)
-      (gives (total_to n (standing_at ss) (entry_at entries marks))))
+      ap (λ l. result_and (refusal_of n marks true (same l n) entries)
+      (Ok (total_to n (standing_at ss) (entry_at entries marks))))
       h.long
-      ∙ ap (λ f. unless (refusal_of n marks true (same (length ts) n) entries) (gives (sum_to n f)))
+      ∙ ap (λ f. result_and (refusal_of n marks true (same (length ts) n) entries) (Ok (sum_to n f)))
       (fun_ext (λ i. counted entries i (is (has marks i))))
 
 -- entries that agree where a mark is set
@@ -70,20 +70,20 @@ module _ (n marks : ℕ) (xs ys : List ℕ) (h : Alike (has marks) xs ys) where
       → total_of n xs marks ss ≡ total_of n ys marks ts
   unfolding total_of
   total_blind ss ts k =
-      ap₂ (λ c (e : ℕ → Entry). unless c (gives (total_to n (standing_at ss) e))) (checked true (same
+      ap₂ (λ c (e : ℕ → Entry). result_and c (Ok (total_to n (standing_at ss) e))) (checked true (same
       (length ss) n)) view
       ∙ standing_blind n marks ss ts k ys
 
   pub go_blind : go_of n xs marks ≡ go_of n ys marks
   unfolding go_of
-  go_blind = ap₂ (λ c (e : ℕ → Entry). unless c (gives (go n e))) (checked true true) view
+  go_blind = ap₂ (λ c (e : ℕ → Entry). result_and c (Ok (go n e))) (checked true true) view
 
   pub lead_blind : lead_of n xs marks ≡ lead_of n ys marks
   unfolding lead_of
-  lead_blind = ap₂ (λ c (e : ℕ → Entry). unless c (led (leader_to n e))) (checked true true) view
+  lead_blind = ap₂ (λ c (e : ℕ → Entry). result_and c (led (leader_to n e))) (checked true true) view
 
   pub change_blind : (process standing : ℕ)
       → change_of n xs marks process standing ≡ change_of n ys marks process standing
   unfolding change_of
   change_blind process standing =
-      ap₂ (λ c (e : ℕ → Entry). unless c (changed standing (e (process - 1)))) (checked (one_to n process) true) view
+      ap₂ (λ c (e : ℕ → Entry). result_and c (changed standing (e (process - 1)))) (checked (one_to n process) true) view

@@ -1,12 +1,16 @@
 -- The comparison of candidates is a strict total order: each number decides, or leaves it to what follows; said once
--- of any number (`lex-*`), and used for portions, diet portions and the number. The last laws are its tests in the
--- code's order.
-use Rattle.std.specs.Prelude.{◌≡◌, refl, ◌⊎◌, Bool, true, false, ℕ, ◌≤◌, ◌<◌, ltb}
-use Rattle.std.proofs.Common.{sym, ◌∙◌, inl, inr, ⊎_elim, arith}
+-- of any number (`lex-*`), and used for portions, diet portions and the number. The last laws say that the derived
+-- order is this one.
+use Rattle.std.specs.Prelude.{◌≡◌, refl, ◌⊎◌, Bool, true, false, ℕ, ◌≤◌, ◌<◌}
+use Rattle.std.proofs.Common.{sym, ◌∙◌, ap, inl, inr, ⊎_elim, arith}
+use Rattle.std.specs.declared.cmp.Ordering.{Ordering}
+use Rattle.std.specs.declared.cmp.Ordering.TheVariants.{Less, Equal, Greater}
+use Rattle.std.specs.Ordering.{MatchOrdering, nat_cmp, ordering_then, is_gt, max_by_ordering}
+use Rattle.std.proofs.lemmas.Cmp.{ranked}
 use mathlib.Mathlib.Order.Defs.Unbundled.{IsStrictTotalOrder}
-use Rattle.sets.specs.Truth.{◌and◌, ◌or◌, same, less}
+use Rattle.sets.specs.Truth.{◌and◌, ◌or◌, same, less, select}
 use Rattle.sets.specs.TruthLaws.{or_cases, or_mk_l, or_none_l, or_off_l, and_first, and_second, and_on_l, and_off_l}
-use Rattle.sets.specs.TruthLaws.{or_off_r}
+use Rattle.sets.specs.TruthLaws.{select_on, select_off}
 use Rattle.sets.specs.TruthLaws.{same_on, same_mk, same_off, less_on, less_mk, less-not, less_off, clash, off_by}
 use Rattle.sets.specs.TruthLaws.{Is, is, on, off}
 use Rattle.aggregates.specs.declared.Candidate.{Candidate}
@@ -67,7 +71,7 @@ compares a b h k =
     let p = lex_neither _ _ _ _ (off_by _ h) (off_by _ k) in
     let d = lex_neither _ _ _ _ p.1 p.2 in
     let n : a.process ≡ b.process = omega (arith, less-not _ _ d.1, less-not _ _ d.2) in
-    λ i. record { process = n i; portions = p.0 i; diet = d.0 i }
+    λ i. record { value = record { portions = p.0 i; diet = d.0 i }; process = n i }
 
 pub order : IsStrictTotalOrder Candidate Ahead
 order = record {
@@ -90,6 +94,14 @@ better_over a b c h k = off_by _ (λ e. clash _ (order.is_strict_order.is_trans.
 pub better_one : (a b : Candidate) → better a b ≡ false → better b a ≡ false → a ≡ b
 better_one a b h k = order.is_trichotomous.trichotomous a b (λ e. clash _ e h) (λ e. clash _ e k)
 
+-- nor does one that does not lead before b, where b does not lead before c, lead before c
+pub better_upto : (a b c : Candidate) → better a b ≡ false → better b c ≡ false → better a c ≡ false
+better_upto a b c h k = off_by _ (λ e. go e (is (better b a)))
+  where
+    go : better a c ≡ true → Is (better b a) → ⊥
+    go e (on f) = clash _ (order.is_strict_order.is_trans.trans b a c f e) k
+    go e (off f) = clash _ (ap (λ x. better x c) (sym (better_one a b h f)) ∙ e) k
+
 -- so of two different ones, one leads before the other
 pub better_either : (a b : Candidate) → (a ≡ b → ⊥) → Ahead a b ⊎ Ahead b a
 better_either a b h = go (is (better a b)) (is (better b a))
@@ -104,9 +116,9 @@ better_either a b h = go (is (better a b)) (is (better b a))
 -- a does not lead before b: it has no more portions; of equal portions no more diet portions; of those equal too no
 -- higher number
 pub record Behind (a b : Candidate) : Type 0 where
-  pub most : a.portions ≤ b.portions
-  pub diets : a.portions ≡ b.portions → a.diet ≤ b.diet
-  pub highest : a.portions ≡ b.portions → a.diet ≡ b.diet → a.process ≤ b.process
+  pub most : a.value.portions ≤ b.value.portions
+  pub diets : a.value.portions ≡ b.value.portions → a.value.diet ≤ b.value.diet
+  pub highest : a.value.portions ≡ b.value.portions → a.value.diet ≡ b.value.diet → a.process ≤ b.process
 
 pub better_off : (a b : Candidate) → better a b ≡ false → Behind a b
 unfolding better
@@ -124,18 +136,45 @@ behind_off a b t =
     (λ d. omega (arith, less_on _ _ d.1, t.highest (sym p.0) (sym d.0))) (lex_on _ _ _ p.1))
     (lex_on _ _ _ e))
 
--- ---- as the code tests it: by the first number that differs
+-- ---- as the derived order compares
 
-pub by_portions : (a b : Candidate) → (a.portions ≡ b.portions → ⊥) → ltb b.portions a.portions ≡ better a b
-unfolding better less
-by_portions a b h = sym (or_off_r _ _ (and_off_l _ _ (same_off _ _ (λ e. h (sym e)))))
+-- what decides where the first numbers are the same
+gt_lex : (x y : ℕ) (o : Ordering) → is_gt (ordering_then (nat_cmp x y) o) ≡ lex x y (is_gt o)
+gt_lex x y o = go (nat_cmp x y) (ranked x y _ refl)
+  where
+    go : (c : Ordering) → MatchOrdering c (x < y) (x ≡ y) (y < x) → is_gt (ordering_then c o) ≡ lex x y (is_gt o)
+    go Less h = sym (or_off_l _ _ (less_off y x (omega arith)) ∙ and_off_l _ _ (same_off y x (λ e. omega arith)))
+    go Equal h = sym (lex-same x y _ (sym h))
+    go Greater h = sym (lex_more x y _ h)
 
-pub by_diet : (a b : Candidate) → a.portions ≡ b.portions → (a.diet ≡ b.diet → ⊥)
-    → ltb b.diet a.diet ≡ better a b
-unfolding better less
-by_diet a b p h = sym (lex-same _ _ _ (sym p) ∙ or_off_r _ _ (and_off_l _ _ (same_off _ _ (λ e. h (sym e)))))
+gt_less : (x y : ℕ) → is_gt (nat_cmp x y) ≡ less y x
+gt_less x y = go (nat_cmp x y) (ranked x y _ refl)
+  where
+    go : (c : Ordering) → MatchOrdering c (x < y) (x ≡ y) (y < x) → is_gt c ≡ less y x
+    go Less h = sym (less_off y x (omega arith))
+    go Equal h = sym (less_off y x (omega arith))
+    go Greater h = sym (less_mk y x h)
 
-pub by_number : (a b : Candidate) → a.portions ≡ b.portions → a.diet ≡ b.diet
-    → ltb b.process a.process ≡ better a b
-unfolding better less
-by_number a b p d = sym (lex-same _ _ _ (sym p) ∙ lex-same _ _ _ (sym d))
+then_assoc : (o p q : Ordering) → ordering_then (ordering_then o p) q ≡ ordering_then o (ordering_then p q)
+then_assoc Less p q = refl
+then_assoc Equal p q = refl
+then_assoc Greater p q = refl
+
+-- by portions, then by diet portions, then by number
+abbrev pub order_of : Candidate → Candidate → Ordering
+order_of a b =
+    ordering_then
+    (ordering_then (nat_cmp a.value.portions b.value.portions) (nat_cmp a.value.diet b.value.diet))
+    (nat_cmp a.process b.process)
+
+pub greater_is : (a b : Candidate) → is_gt (order_of a b) ≡ better a b
+unfolding better
+greater_is a b =
+    ap is_gt (then_assoc (nat_cmp a.value.portions b.value.portions) _ _) ∙ gt_lex _ _ _
+    ∙ ap (lex a.value.portions b.value.portions) (gt_lex _ _ _ ∙ ap (lex a.value.diet b.value.diet) (gt_less _ _))
+
+-- the greater of two is the one that leads before the other
+pub greater_of : (a b : Candidate) (o : Ordering) → is_gt o ≡ better a b → max_by_ordering o a b ≡ select (better a b) a b
+greater_of a b Less e = sym (select_off _ a b (sym e))
+greater_of a b Equal e = sym (select_off _ a b (sym e))
+greater_of a b Greater e = sym (select_on _ a b (sym e))

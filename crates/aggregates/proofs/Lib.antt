@@ -1,6 +1,7 @@
-mod Accepted
-pub mod Refusals
-pub mod LeaderLaws
-pub mod Comparison
+pub mod Accepted
 pub mod Blind
+pub mod Chains
+pub mod Comparison
+pub mod LeaderLaws
+pub mod Refusals
 pub mod TotalLaws

@@ -1,5 +1,7 @@
 -- Laws of the total: its ends, in the order of its checks; what it is made of; and how great it can be.
-use Rattle.std.specs.Prelude.{◌≡◌, Bool, false, List, ℕ, ◌+◌, ◌^◌, ◌≤◌, ◌<◌, get_or, length}
+use Rattle.std.specs.Prelude.{◌≡◌, Bool, false, Ok, Err, List, ℕ, ◌+◌, ◌^◌, ◌≤◌, ◌<◌, get_or, length}
+use Rattle.std.specs.Result.{result_and}
+use Rattle.refusal.specs.declared.Refusal.TheVariants.{Slice, Diet}
 use Rattle.std.proofs.Math.Path.{refl, sym, fun_ext}
 use Rattle.std.proofs.Common.{◌∙◌, ap, arith}
 use Rattle.std.proofs.Math.Bool.{true}
@@ -10,10 +12,9 @@ use Rattle.sets.specs.Truth.{one_to, select}
 use Rattle.sets.specs.TruthLaws.{select_by, same_mk, same_off}
 use Rattle.global_data.specs.GlobalData.{entry_by}
 use Rattle.global_data.specs.WordLaws.{portions_lt}
-use Rattle.aggregates.specs.Answers.{refused, gives}
 use Rattle.aggregates.specs.Entries.{entry_at, standing_at, counts_for, diets_fit}
-use Rattle.aggregates.specs.Aggregates.{refusal_of, unless, total_to, total_of}
-use Rattle.aggregates.proofs.Refusals.{by_standing, by_diet, by_none, turned_away, unless_none}
+use Rattle.aggregates.specs.Aggregates.{refusal_of, total_to, total_of}
+use Rattle.aggregates.proofs.Refusals.{by_standing, by_diet, by_none, turned_away, answered}
 use Rattle.aggregates.specs.TotalLaws.{portions_at, present_sum, absent_sum, greatest}
 
 -- ---- the ends, of n from 1 to 16, marks below n and n entries
@@ -21,25 +22,23 @@ use Rattle.aggregates.specs.TotalLaws.{portions_at, present_sum, absent_sum, gre
 module _ (n marks : ℕ) (entries standing : List ℕ) (sized : one_to 16 n ≡ true) (marked : within n marks ≡ true)
     (long : length entries ≡ n) where
   -- a standing list not of n, before any entry is looked at
-  pub total_standing : (length standing ≡ n → ⊥) → total_of n entries marks standing ≡ refused 10
+  pub total_standing : (length standing ≡ n → ⊥) → total_of n entries marks standing ≡ Err Slice
   unfolding total_of
   total_standing h =
-      sym (turned_away _ 10 _
-      (sym (by_standing n marks true _ entries sized marked refl long (same_off _ _ h))) (λ z. omega arith))
+      turned_away Slice _ (by_standing n marks true _ entries sized marked refl long (same_off _ _ h))
 
   -- then an entry with more diet portions than portions
   pub total_diet : length standing ≡ n → diets_fit n (entry_at entries marks) ≡ false
-      → total_of n entries marks standing ≡ refused 15
+      → total_of n entries marks standing ≡ Err Diet
   unfolding total_of
   total_diet l d =
-      sym (turned_away _ 15 _
-      (sym (by_diet n marks true _ entries sized marked refl long (same_mk _ _ l) d)) (λ z. omega arith))
+      turned_away Diet _ (by_diet n marks true _ entries sized marked refl long (same_mk _ _ l) d)
 
   -- every other call is answered
   pub total_given : length standing ≡ n → diets_fit n (entry_at entries marks) ≡ true
-      → total_of n entries marks standing ≡ gives (total_to n (standing_at standing) (entry_at entries marks))
+      → total_of n entries marks standing ≡ Ok (total_to n (standing_at standing) (entry_at entries marks))
   unfolding total_of
-  total_given l d = unless_none _ _ (by_none n marks true _ entries sized marked refl long (same_mk _ _ l) d)
+  total_given l d = answered _ (by_none n marks true _ entries sized marked refl long (same_mk _ _ l) d)
 
 -- ---- what it is made of
 
@@ -68,11 +67,11 @@ module _ (n marks : ℕ) (entries standing : List ℕ) where
   -- with standing values all 0 it is the sum of the present ones
   pub total_present : length standing ≡ n → ((i : ℕ) → i < n → standing_at standing i ≡ 0)
       → total_of n entries marks standing
-      ≡ unless (refusal_of n marks true true entries) (gives (present_sum n entries marks))
+      ≡ result_and (refusal_of n marks true true entries) (Ok (present_sum n entries marks))
   unfolding total_of
   total_present l z =
       rw (same_mk _ _ l)
-      (ap (λ v. unless (refusal_of n marks true true entries) (gives v)) (omega (arith, total_parts, none)))
+      (ap (λ v. result_and (refusal_of n marks true true entries) (Ok v)) (omega (arith, total_parts, none)))
     where
       nought : (i : ℕ) → i < n → select (has marks i) 0 (standing_at standing i) ≤ 0
       nought i b = select_by (λ x. x ≤ 0) (has marks i) _ _ (λ e. omega arith) (λ e. omega (arith, z i b))

@@ -1,33 +1,31 @@
 -- The aggregates of global data (document 01: sums of a sheet): total, go, lead and change, with what each refuses.
--- Document 01 says terminal for process, count for portions and blank for absent; its refusals keep their numbers.
-use Rattle.std.specs.Prelude.{Bool, true, List, ℕ, ◌-◌, length, ℤ, pos, ◌-ℤ◌}
+-- Document 01 says terminal for process, count for portions and blank for absent; its refusals have names (Numbers.antt
+-- of the crate refusal).
+use Rattle.std.specs.Prelude.{Bool, true, Option, None, Some, Ok, Err, List, ℕ, ◌-◌, length, ℤ, pos, ◌-ℤ◌}
+use Rattle.std.specs.Result.{result_and}
 use Rattle.sets.specs.Lists.{every, sum_to}
 use Rattle.sets.specs.Set.{within}
-use Rattle.sets.specs.Truth.{same, one_to, select, check}
-use Rattle.global_data.specs.declared.Entry.{Entry}
-use Rattle.global_data.specs.declared.Entry.TheVariants.{Absent, Value}
+use Rattle.sets.specs.Truth.{same, one_to}
+use Rattle.refusal.specs.declared.Refusal.TheVariants.{Size, Field, Slice, Absent, Diet}
+use Rattle.global_data.specs.GlobalData.{Entry}
+use Rattle.aggregates.specs.declared.Candidate.{Candidate}
 use Rattle.aggregates.specs.declared.Leader.{Leader}
-use Rattle.aggregates.specs.declared.Leader.TheVariants.{Nobody, Leads}
-use Rattle.aggregates.specs.Answers.{Answer, refused, gives, Lead}
+use Rattle.aggregates.specs.Answers.{Answer, check}
 use Rattle.aggregates.specs.Entries.{entry_at, standing_at, counts_for, served, diets_fit}
 use Rattle.aggregates.specs.Leader.{leader_to}
 
--- ---- refusals: the number of the first check that fails, or 0
+-- ---- refusals: the first check that fails, or none
 
 -- n from 1 to 16; marks below n; the process, where one is used, from 1 to n (`named`); n entries; n standing values,
 -- where they are used (`stood`); in each present entry no more diet portions than portions (request C-15)
-unfoldable pub refusal_of : ℕ → ℕ → Bool → Bool → List ℕ → ℕ
+unfoldable pub refusal_of : ℕ → ℕ → Bool → Bool → List ℕ → Answer Unit
 refusal_of n marks named stood entries =
-    check (one_to 16 n) 1
-    (check (within n marks) 5
-    (check named 5
-    (check (same (length entries) n) 10
-    (check stood 10
-    (check (diets_fit n (entry_at entries marks)) 15 0)))))
-
--- an answer where no check fails
-unfoldable pub unless : {A : Type 0} → ℕ → Answer A → Answer A
-unless number answer = select (same number 0) answer (refused number)
+    check (one_to 16 n) Size
+    (check (within n marks) Field
+    (check named Field
+    (check (same (length entries) n) Slice
+    (check stood Slice
+    (check (diets_fit n (entry_at entries marks)) Diet (Ok tt))))))
 
 -- ---- what each gives, of n entries
 
@@ -40,31 +38,31 @@ abbrev pub go : ℕ → (ℕ → Entry) → Bool
 go n entry = every n (λ i. served (entry i))
 
 -- who leads, and its portions; the lead of entries that are all absent is refused
-abbrev pub led : Leader → Answer Lead
-led Nobody = refused 12
-led (Leads c) = gives (record { process = c.process; portions = c.portions })
+abbrev pub led : Option Candidate → Answer Leader
+led None = Err Absent
+led (Some c) = Ok (record { process = c.process; portions = c.value.portions })
 
 -- portions less standing value (document 01: standing count); the change of an absent entry is refused
 abbrev pub changed : ℕ → Entry → Answer ℤ
-changed standing Absent = refused 12
-changed standing (Value p d) = gives (pos p -ℤ pos standing)
+changed standing None = Err Absent
+changed standing (Some v) = Ok (pos v.portions -ℤ pos standing)
 
 -- ---- the calls
 
 unfoldable pub total_of : ℕ → List ℕ → ℕ → List ℕ → Answer ℕ
 total_of n entries marks standing =
-    unless (refusal_of n marks true (same (length standing) n) entries)
-    (gives (total_to n (standing_at standing) (entry_at entries marks)))
+    result_and (refusal_of n marks true (same (length standing) n) entries)
+    (Ok (total_to n (standing_at standing) (entry_at entries marks)))
 
 unfoldable pub go_of : ℕ → List ℕ → ℕ → Answer Bool
 go_of n entries marks =
-    unless (refusal_of n marks true true entries) (gives (go n (entry_at entries marks)))
+    result_and (refusal_of n marks true true entries) (Ok (go n (entry_at entries marks)))
 
-unfoldable pub lead_of : ℕ → List ℕ → ℕ → Answer Lead
+unfoldable pub lead_of : ℕ → List ℕ → ℕ → Answer Leader
 lead_of n entries marks =
-    unless (refusal_of n marks true true entries) (led (leader_to n (entry_at entries marks)))
+    result_and (refusal_of n marks true true entries) (led (leader_to n (entry_at entries marks)))
 
 unfoldable pub change_of : ℕ → List ℕ → ℕ → ℕ → ℕ → Answer ℤ
 change_of n entries marks process standing =
-    unless (refusal_of n marks (one_to n process) true entries)
+    result_and (refusal_of n marks (one_to n process) true entries)
     (changed standing (entry_at entries marks (process - 1)))

@@ -1,12 +1,10 @@
 -- Entries of global data (document 01: entries of a sheet), and what each of them counts for: the aggregates read
 -- portions (request C-15).
-use Rattle.std.specs.Prelude.{Bool, false, List, ℕ, get_or}
+use Rattle.std.specs.Prelude.{Bool, false, None, Some, List, ℕ, get_or}
 use Rattle.sets.specs.Set.{has}
 use Rattle.sets.specs.Lists.{every}
 use Rattle.sets.specs.Truth.{less}
-use Rattle.global_data.specs.GlobalData.{entry_by, diet_fits}
-use Rattle.global_data.specs.declared.Entry.{Entry}
-use Rattle.global_data.specs.declared.Entry.TheVariants.{Absent, Value}
+use Rattle.global_data.specs.GlobalData.{Entry, entry_by, diet_fits}
 
 -- Entry i, from 0: the value in its word where its present mark is set, else absent (document 01: blank).
 unfoldable pub entry_at : List ℕ → ℕ → ℕ → Entry
@@ -18,13 +16,13 @@ standing_at standing i = get_or standing i 0
 
 -- What an entry adds to the total: absent as the standing value of its process.
 abbrev pub counts_for : ℕ → Entry → ℕ
-counts_for standing Absent = standing
-counts_for standing (Value p d) = p
+counts_for standing None = standing
+counts_for standing (Some v) = v.portions
 
 -- What go asks of an entry: present, and at least 1 portion.
 abbrev pub served : Entry → Bool
-served Absent = false
-served (Value p d) = less 0 p
+served None = false
+served (Some v) = less 0 v.portions
 
 -- What refusal 15 asks of n entries: of no present one do the diet portions exceed the portions.
 abbrev pub diets_fit : ℕ → (ℕ → Entry) → Bool

@@ -4,6 +4,4 @@ pub mod Cases
 pub mod Change
 pub mod Entries
 pub mod Leader
-pub mod Search
 pub mod TotalLaws
-pub mod Whole

@@ -3,112 +3,134 @@
 // the lead's ties diet portions too.
 #![tactic(auto)]
 
-ghost use Rattle.std.specs.Prelude.{◌≡◌, ◌<◌, ◌≤◌, length, pos, ◌-ℤ◌};
+ghost use Rattle.std.specs.Prelude.{◌≡◌, ◌<◌, ◌≤◌, Ok, Err, MatchResult, length, pos, ◌-ℤ◌};
 ghost use Rattle.aggregates.specs.Aggregates.{refusal_of, total_to, go, led, changed};
 ghost use Rattle.aggregates.specs.Aggregates.{total_of, go_of, lead_of, change_of};
-ghost use Rattle.aggregates.specs.Answers.{total_means, go_means, lead_means, change_means};
 ghost use Rattle.aggregates.specs.Entries.{entry_at, standing_at, counts_for, served, diets_fit};
-ghost use Rattle.aggregates.specs.Leader.{better, leader_to};
-ghost use Rattle.aggregates.specs.Search.{contend, with_entry};
+ghost use Rattle.aggregates.specs.Leader.{contender, leader_to};
 
-use global_data::{Entry, diet_fits, value_in};
+use global_data::{Entry, Value, diet_fits};
+use refusal::Refusal;
 use sets::{one_to, set_within};
 
-// A refusal, by document 01's number.
+// The process that leads, by its number from 1, and its portions.
 #[derive(Clone, Copy)]
-pub struct Refusal {
-    pub number: u8,
-}
-
-#[derive(Clone, Copy)]
-pub enum TotalAnswer {
-    Total(u64),
-    Refused(Refusal),
-}
-
-#[derive(Clone, Copy)]
-pub enum GoAnswer {
-    Go(bool),
-    Refused(Refusal),
-}
-
-#[derive(Clone, Copy)]
-pub enum LeadAnswer {
-    Lead { process: u8, portions: u16 },
-    Refused(Refusal),
-}
-
-#[derive(Clone, Copy)]
-pub enum ChangeAnswer {
-    Difference(i64),
-    Refused(Refusal),
-}
-
-// A process, by its number from 1, with what its entry holds.
-#[derive(Clone, Copy)]
-pub struct Candidate {
+pub struct Leader {
     pub process: u8,
     pub portions: u16,
-    pub diet: u16,
 }
 
-// The lead among the entries looked at.
+// A process, by its number from 1, with the value of its entry. The lead is the greatest by the derived order: by
+// portions, then by diet portions, then by number.
+#[derive(Clone, Copy, PartialEq, Eq, PartialOrd, Ord)]
+pub struct Candidate {
+    pub value: Value,
+    pub process: u8,
+}
+
+// At most sixteen entries, and their present marks.
 #[derive(Clone, Copy)]
-pub enum Leader {
-    Nobody,
-    Leads(Candidate),
+struct Entries<'a> {
+    words: &'a [u32],
+    marks: u16,
+    ghost few: { length words.now ≤ 16 },
 }
 
-// Entry i, from 0. Its word is read only where its mark is set.
-fn entry_at(entries: &[u32], marks: u16, i: usize) -> Entry
-    requires { (i < 16) × (i < length entries.now) }
-    ensures { result ≡ entry_at entries.now marks i }
-{
-    if sets::member(marks, i) {
-        value_in(entries[i])
-    } else {
-        Entry::Absent
+impl Entries<'_> {
+    // Entry i, from 0. Its word is read only where its mark is set.
+    fn entry(self, i: usize) -> Entry
+        requires { i < length self.words.now }
+        ensures { result ≡ entry_at self.entry.words.now self.entry.marks i }
+    {
+        if sets::member(self.marks, i) {
+            Some(Value::from(self.words[i]))
+        } else {
+            None
+        }
+    }
+
+    // Whether of no present entry the diet portions exceed the portions.
+    fn diets_fit(self) -> bool
+        ensures { result ≡ diets_fit (length self.entry.words.now) (entry_at self.entry.words.now self.entry.marks) }
+    {
+        (0..self.words.len()).all(|i| diet_fits(self.entry(i)))
+    }
+
+    fn are_served(self) -> bool
+        ensures { result ≡ go (length self.entry.words.now) (entry_at self.entry.words.now self.entry.marks) }
+    {
+        (0..self.words.len()).all(|i| is_served(self.entry(i)))
+    }
+
+    fn sum(self, standing: &[u32]) -> u64
+        requires { length standing.now ≡ length self.words.now }
+        ensures { result ≡ total_to (length self.entry.words.now) (standing_at standing.now)
+            (entry_at self.entry.words.now self.entry.marks) }
+    {
+        (0..self.words.len())
+            .map(|i| u64::from(counts_for(standing, i, self.entry(i))))
+            .sum()
+    }
+
+    // Process i, from 0, where its entry is present.
+    fn contender(self, i: usize) -> Option<Candidate>
+        requires { i < length self.words.now }
+        ensures { result ≡ contender i (entry_at self.entry.words.now self.entry.marks i) }
+    {
+        self.entry(i).map(|value| Candidate {
+            value,
+            process: i as u8 + 1,
+        })
+    }
+
+    fn leader(self) -> Option<Candidate>
+        ensures { result ≡ leader_to (length self.entry.words.now) (entry_at self.entry.words.now self.entry.marks) }
+    {
+        (0..self.words.len())
+            .filter_map(|i| self.contender(i))
+            .max()
     }
 }
 
-// Whether of no present entry the diet portions exceed the portions.
-fn diets_fit(entries: &[u32], marks: u16) -> bool
-    requires { length entries.now ≤ 16 }
-    ensures { result ≡ diets_fit (length entries.now) (entry_at entries.now marks) }
-{
-    let mut ok = true;
-    let mut i = 0;
-    while i < entries.len() {
-        ok = diet_fits(entry_at(entries, marks, i)) & ok;
-        i += 1;
-    }
-    ok
-}
-
-// The number of the first check that fails, or 0. named: the process, where the call uses one, is from 1 to n;
-// stood: the standing values, where the call uses them, are n.
-fn first_refusal(n: u8, marks: u16, named: bool, stood: bool, entries: &[u32]) -> u8
-    ensures { result ≡ refusal_of n marks named stood entries.now }
+// The entries, where no check fails. named: the process, where the call uses one, is from 1 to n; stood: the standing
+// values, where the call uses them, are n.
+fn checked(
+    n: u8,
+    words: &[u32],
+    marks: u16,
+    named: bool,
+    stood: bool,
+) -> Result<Entries<'_>, Refusal>
+    ensures { MatchResult result
+        (λ e. (refusal_of n marks named stood words.now ≡ Ok tt) × (e.words.now ≡ words.now) × (e.marks ≡ marks))
+        (λ r. refusal_of n marks named stood words.now ≡ Err r) }
 {
     if !one_to(16, n) {
-        return 1;
+        return Err(Refusal::Size);
     }
     if !set_within(n, marks) {
-        return 5;
+        return Err(Refusal::Field);
     }
     if !named {
-        return 5;
+        return Err(Refusal::Field);
     }
-    if entries.len() != n as usize {
-        return 10;
+    if words.len() != n as usize {
+        return Err(Refusal::Slice);
     }
     if !stood {
-        return 10;
+        return Err(Refusal::Slice);
     }
-    if !diets_fit(entries, marks) {
-        return 15;
+    let entries = Entries { words, marks };
+    if !entries.diets_fit() {
+        return Err(Refusal::Diet);
     }
-    0
+    Ok(entries)
+}
+
+fn is_served(entry: Entry) -> bool
+    ensures { result ≡ served entry }
+{
+    entry.is_some_and(|v| 0 < v.portions)
 }
 
 // What an entry counts for, of process i, from 0. Its standing value is read only where the entry is absent.
@@ -117,172 +139,69 @@ fn counts_for(standing: &[u32], i: usize, entry: Entry) -> u32
     ensures { result ≡ counts_for (standing_at standing.now i) entry }
 {
     match entry {
-        Entry::Absent => standing[i],
-        Entry::Value { portions, diet: _ } => portions as u32,
+        None => standing[i],
+        Some(v) => u32::from(v.portions),
     }
 }
 
-fn sum(entries: &[u32], marks: u16, standing: &[u32]) -> u64
-    requires { (length entries.now ≤ 16) × (length standing.now ≡ length entries.now) }
-    ensures { result ≡ total_to (length entries.now) (standing_at standing.now)
-        (entry_at entries.now marks) }
+fn lead_by(leader: Option<Candidate>) -> Result<Leader, Refusal>
+    ensures { result ≡ led leader }
 {
-    let mut sum: u64 = 0;
-    let mut i = 0;
-    while i < entries.len() {
-        sum += counts_for(standing, i, entry_at(entries, marks, i)) as u64;
-        i += 1;
-    }
-    sum
-}
-
-fn is_served(entry: Entry) -> bool
-    ensures { result ≡ served entry }
-{
-    match entry {
-        Entry::Absent => false,
-        Entry::Value { portions, diet: _ } => 0 < portions,
-    }
-}
-
-fn all_served(entries: &[u32], marks: u16) -> bool
-    requires { length entries.now ≤ 16 }
-    ensures { result ≡ go (length entries.now) (entry_at entries.now marks) }
-{
-    let mut ok = true;
-    let mut i = 0;
-    while i < entries.len() {
-        ok = is_served(entry_at(entries, marks, i)) & ok;
-        i += 1;
-    }
-    ok
-}
-
-fn is_better(a: Candidate, b: Candidate) -> bool
-    ensures { result ≡ better a b }
-{
-    if a.portions != b.portions {
-        return b.portions < a.portions;
-    }
-    if a.diet != b.diet {
-        return b.diet < a.diet;
-    }
-    b.process < a.process
-}
-
-fn with_candidate(leader: Leader, c: Candidate) -> Leader
-    ensures { result ≡ contend leader c }
-{
-    match leader {
-        Leader::Nobody => Leader::Leads(c),
-        Leader::Leads(b) => if is_better(c, b) {
-            Leader::Leads(c)
-        } else {
-            Leader::Leads(b)
-        },
-    }
-}
-
-fn with_entry(leader: Leader, process: u8, entry: Entry) -> Leader
-    ensures { result ≡ with_entry leader process entry }
-{
-    match entry {
-        Entry::Absent => leader,
-        Entry::Value { portions, diet } => with_candidate(
-            leader,
-            Candidate {
-                process,
-                portions,
-                diet,
-            },
-        ),
-    }
-}
-
-fn find_leader(entries: &[u32], marks: u16) -> Leader
-    requires { length entries.now ≤ 16 }
-    ensures { result ≡ leader_to (length entries.now) (entry_at entries.now marks) }
-{
-    let mut best = Leader::Nobody;
-    let mut i = 0;
-    while i < entries.len() {
-        let next = with_entry(best, (i + 1) as u8, entry_at(entries, marks, i));
-        best = next;
-        i += 1;
-    }
-    best
-}
-
-fn lead_by(leader: Leader) -> LeadAnswer
-    ensures { lead_means result ≡ led leader }
-{
-    match leader {
-        Leader::Nobody => LeadAnswer::Refused(Refusal { number: 12 }),
-        Leader::Leads(c) => LeadAnswer::Lead {
-            process: c.process,
-            portions: c.portions,
-        },
-    }
+    let c = leader.ok_or(Refusal::Absent)?;
+    Ok(Leader {
+        process: c.process,
+        portions: c.value.portions,
+    })
 }
 
 fn difference(portions: u16, standing: u32) -> i64
     ensures { result ≡ pos portions -ℤ pos standing }
 {
-    portions as i64 - standing as i64
+    i64::from(portions) - i64::from(standing)
 }
 
-fn changed_by(standing: u32, entry: Entry) -> ChangeAnswer
-    ensures { change_means result ≡ changed standing entry }
+fn changed_by(standing: u32, entry: Entry) -> Result<i64, Refusal>
+    ensures { result ≡ changed standing entry }
 {
-    match entry {
-        Entry::Absent => ChangeAnswer::Refused(Refusal { number: 12 }),
-        Entry::Value { portions, diet: _ } => ChangeAnswer::Difference(difference(
-            portions, standing,
-        )),
-    }
+    let value = entry.ok_or(Refusal::Absent)?;
+    Ok(difference(value.portions, standing))
 }
 
 // The sum of the portions, of an absent entry the standing value of its process.
-pub fn total(n: u8, entries: &[u32], marks: u16, standing: &[u32]) -> TotalAnswer
-    ensures { total_means result ≡ total_of n entries.now marks standing.now }
+pub fn total(n: u8, entries: &[u32], marks: u16, standing: &[u32]) -> Result<u64, Refusal>
+    ensures { result ≡ total_of n entries.now marks standing.now }
 {
-    let number = first_refusal(n, marks, true, standing.len() == n as usize, entries);
-    if number != 0 {
-        return TotalAnswer::Refused(Refusal { number });
-    }
-    TotalAnswer::Total(sum(entries, marks, standing))
+    let entries = checked(n, entries, marks, true, standing.len() == n as usize)?;
+    Ok(entries.sum(standing))
 }
 
 // Whether no entry is absent and each has at least 1 portion.
-pub fn go(n: u8, entries: &[u32], marks: u16) -> GoAnswer
-    ensures { go_means result ≡ go_of n entries.now marks }
+pub fn go(n: u8, entries: &[u32], marks: u16) -> Result<bool, Refusal>
+    ensures { result ≡ go_of n entries.now marks }
 {
-    let number = first_refusal(n, marks, true, true, entries);
-    if number != 0 {
-        return GoAnswer::Refused(Refusal { number });
-    }
-    GoAnswer::Go(all_served(entries, marks))
+    let entries = checked(n, entries, marks, true, true)?;
+    Ok(entries.are_served())
 }
 
 // The process with the most portions; of equal portions the one with more diet portions, of those equal too the one
 // with the highest number.
-pub fn lead(n: u8, entries: &[u32], marks: u16) -> LeadAnswer
-    ensures { lead_means result ≡ lead_of n entries.now marks }
+pub fn lead(n: u8, entries: &[u32], marks: u16) -> Result<Leader, Refusal>
+    ensures { result ≡ lead_of n entries.now marks }
 {
-    let number = first_refusal(n, marks, true, true, entries);
-    if number != 0 {
-        return LeadAnswer::Refused(Refusal { number });
-    }
-    lead_by(find_leader(entries, marks))
+    let entries = checked(n, entries, marks, true, true)?;
+    lead_by(entries.leader())
 }
 
 // The portions of a process, from 1, less a standing value.
-pub fn change(n: u8, entries: &[u32], marks: u16, process: u8, standing: u32) -> ChangeAnswer
-    ensures { change_means result ≡ change_of n entries.now marks process standing }
+pub fn change(
+    n: u8,
+    entries: &[u32],
+    marks: u16,
+    process: u8,
+    standing: u32,
+) -> Result<i64, Refusal>
+    ensures { result ≡ change_of n entries.now marks process standing }
 {
-    let number = first_refusal(n, marks, one_to(n, process), true, entries);
-    if number != 0 {
-        return ChangeAnswer::Refused(Refusal { number });
-    }
-    changed_by(standing, entry_at(entries, marks, (process - 1) as usize))
+    let entries = checked(n, entries, marks, one_to(n, process), true)?;
+    changed_by(standing, entries.entry((process - 1) as usize))
 }

@@ -1,10 +1,10 @@
 -- Carrying a running week over (request C-17): the calls do the same on a new bench, and what they left is accepted.
-use Rattle.std.specs.Prelude.{◌≡◌, List, [], map, true, ℕ}
+use Rattle.std.specs.Prelude.{◌≡◌, List, [], map, true, ℕ, ⊤, Result}
 use Rattle.std.proofs.Common.{ap₂, ◌∙◌}
 use Rattle.sets.specs.Lists.{every_in}
 use Rattle.sets.specs.TruthLaws.{select_on, same_mk as number_same}
 use Rattle.bench.specs.declared.Bench.{Bench}
-use Rattle.bench.specs.declared.Answer.{Answer}
+use Rattle.refusal.specs.declared.Refusal.{Refusal}
 use Rattle.bench.specs.declared.Carried.{Carried}
 use Rattle.bench.specs.State.{opened_of}
 use Rattle.bench.specs.Sound.{opens}
@@ -15,7 +15,7 @@ use Rattle.agreement.specs.Statement.Carrying.{as_old, takes_bytes, Carrying}
 use Rattle.agreement.proofs.Histories.RewrittenCalls.{AlikeFrom, calls_alike}
 use Rattle.agreement.proofs.Theorem.{carry_answers}
 
-carried_of : Answer → Bench → Carried
+carried_of : Result ⊤ Refusal → Bench → Carried
 carried_of a s = record { answer = a; bench = s }
 
 pub carrying : (n t : ℕ) (calls : List Call) → opens n t ≡ true → every_in takes_bytes calls ≡ true

@@ -1,29 +1,28 @@
 -- Demand 3, proved: after the history of any list of calls the bench has every invariant and holds what the history
 -- tells, and each part of the demand is read off that one state.
-use Rattle.std.specs.Prelude.{◌≡◌, refl, ◌≢◌, List, [], ◌∷◌, ◌++◌, true, false, ℕ, suc, ◌+◌, ◌-◌, ◌*◌, ◌^◌, ◌≤◌, ◌<◌, length, get_or, drop}
+use Rattle.std.specs.Prelude.{◌≡◌, ◌≢◌, List, [], ◌∷◌, ◌++◌, true, false, ℕ, suc, ◌+◌, ◌-◌, ◌*◌, ◌^◌, ◌≤◌, ◌<◌, length, get_or, drop, Some, None, Ok, Err, IsSome}
 use Rattle.std.proofs.Math.Path.{sym, ap}
 use Rattle.std.proofs.Common.{◌∙◌}
-use Rattle.std.proofs.Math.Option.{Option, none, some, Option-elim, IsSome}
 use native.Mathlib.Omega.{arith}
 use Rattle.std.proofs.Math.Pow.{are_bytes}
 use Rattle.sets.specs.Set.{has}
 use Rattle.sets.specs.Laws.{size_count}
 use Rattle.sets.specs.Lists.{count_to, each, every_in}
 use Rattle.sets.specs.Truth.{select}
-use Rattle.sets.specs.TruthLaws.{Is, on, off, is, clash}
+use Rattle.sets.specs.TruthLaws.{Is, on, off, is}
 use Rattle.global_data.specs.declared.GlobalData.{GlobalData}
-use Rattle.global_data.specs.declared.Entry.TheVariants.{Absent, Value}
+use Rattle.global_data.specs.declared.Value.{Value}
 use Rattle.global_data.specs.GlobalData.{value_in, entry_of, same_to}
 use Rattle.global_data.proofs.Laws.{entry_present, entry_absent, value_present, absent_clear, same_mk}
 use Rattle.process.specs.Steps.{has_decided}
-use Rattle.bench.specs.declared.Shown.TheVariants.{Marks, Refused}
+use Rattle.refusal.specs.declared.Refusal.TheVariants.{Undecided}
 use Rattle.bench.specs.declared.Event.{Event}
 use Rattle.bench.specs.State.{process_at, crashed_at, opened_of}
 use Rattle.bench.specs.Sound.{opens}
 use Rattle.bench.proofs.SoundLaws.{sound_on}
 use Rattle.bench.specs.Refuse.{refusal}
 use Rattle.bench.specs.Record.{is_kind}
-use Rattle.bench.specs.Calls.{refused, after_events, word_at, show_of, shown_in}
+use Rattle.bench.specs.Calls.{after_events, word_at, show_of, shown_in}
 use Rattle.agreement.specs.Statement.History.{Call, after_calls, after_history, history}
 use Rattle.agreement.specs.Statement.History.{outcome, before_decision, started_with, crashed_in, crash_count}
 use Rattle.agreement.specs.Statement.History.{rounds}
@@ -38,7 +37,6 @@ use Rattle.agreement.specs.Invariants.RecordBound.{work_bound}
 use Rattle.agreement.specs.Invariants.QuietEnd.{Still, quiet_end}
 use Rattle.agreement.specs.Bridge.BenchView.{view_of}
 use Rattle.agreement.specs.Bridge.EveryEvent.{still_view}
-use Rattle.agreement.specs.Histories.Append.{is_decided}
 use Rattle.agreement.specs.Histories.OneEvent.{decision_got, decision_none}
 use Rattle.agreement.specs.Histories.InvariantsHold.{Along, along_opened, along_next}
 use Rattle.agreement.proofs.Histories.HistoryMatchesBench.{Told, told_opened, told_next}
@@ -74,24 +72,18 @@ account n t o calls =
       starts = starts_opened n t;
     })
 
--- what the history says of a decision is one
-is_some : (o : Option GlobalData) → is_decided o ≡ true → IsSome o
-unfolding is_decided Option-elim
-is_some none d = clash false d refl
-is_some (some g) d = tt
-
 -- two entries that are present together, with one value
 entry_same : (g g' : GlobalData) (k : ℕ) → has g.present k ≡ has g'.present k
     → (has g.present k ≡ true → get_or g.values k 0 ≡ get_or g'.values k 0) → entry_of g k ≡ entry_of g' k
 entry_same g g' k e f = go (is (has g.present k))
   where
     go : Is (has g.present k) → entry_of g k ≡ entry_of g' k
-    go (on u) = entry_present g k u ∙ ap value_in (f u) ∙ sym (entry_present g' k (sym e ∙ u))
+    go (on u) = entry_present g k u ∙ ap (λ w. Some (value_in w)) (f u) ∙ sym (entry_present g' k (sym e ∙ u))
     go (off u) = entry_absent g k u ∙ sym (entry_absent g' k (sym e ∙ u))
 
 module _ (n t : ℕ) (h : List Event) (A : Account n t h) where
   -- what x decided on is what it holds
-  holds : (x : ℕ) (g : GlobalData) → outcome (opened_of n t) h x ≡ some g
+  holds : (x : ℕ) (g : GlobalData) → outcome (opened_of n t) h x ≡ Some g
       → (has_decided (process_at (after_history n t h) x) ≡ true) × ((process_at (after_history n t h) x).estimate ≡ g)
   holds x g e = decision_got _ g (sym (A.told.outcome_is x) ∙ e)
 
@@ -107,8 +99,8 @@ module _ (n t : ℕ) (h : List Event) (A : Account n t h) where
       let E = agree n t _ good.basic good.estimates good.decisions x y d d' k l in
       entry_same _ _ k E.0 E.1
 
-  agreement_of : (x y : ℕ) (g g' : GlobalData) → outcome (opened_of n t) h x ≡ some g
-      → outcome (opened_of n t) h y ≡ some g'
+  agreement_of : (x y : ℕ) (g g' : GlobalData) → outcome (opened_of n t) h x ≡ Some g
+      → outcome (opened_of n t) h y ≡ Some g'
       → same_to n g g' ≡ true
   agreement_of x y g g' e e' =
       let (d, u) = holds x g e in
@@ -116,17 +108,17 @@ module _ (n t : ℕ) (h : List Event) (A : Account n t h) where
       same_mk n g g' (λ k l.
       ap (λ (f : GlobalData). entry_of f k) (sym u) ∙ same_entry_lem x y k l d d' ∙ ap (λ (f : GlobalData). entry_of f k) u')
 
-  validity_of : (x k p d : ℕ) (g : GlobalData) → outcome (opened_of n t) h x ≡ some g → entry_of g k ≡ Value p d
-      → started_with h k ≡ Value p d
+  validity_of : (x k : ℕ) (v : Value) (g : GlobalData) → outcome (opened_of n t) h x ≡ Some g → entry_of g k ≡ Some v
+      → started_with h k ≡ Some v
   unfolding view_of
-  validity_of x k p d g e w =
+  validity_of x k v g e w =
       let (f, u) = holds x g e in
-      let w' : entry_of (process_at (after_history n t h) x).estimate k ≡ Value p d = rw u w in
-      let o = value_present _ k p d w' in
+      let w' : entry_of (process_at (after_history n t h) x).estimate k ≡ Some v = rw u w in
+      let o = value_present _ k v w' in
       let E = valid n t _ good.basic good.estimates good.decisions x k f o in
-      (A.told.begun k).started E.1 ∙ ap value_in (sym E.0) ∙ sym (entry_present _ k o) ∙ w'
+      (A.told.begun k).started E.1 ∙ ap (λ w. Some (value_in w)) (sym E.0) ∙ sym (entry_present _ k o) ∙ w'
 
-  absence_of : (x k : ℕ) (g : GlobalData) → x < n → k < n → outcome (opened_of n t) h x ≡ some g → entry_of g k ≡ Absent
+  absence_of : (x k : ℕ) (g : GlobalData) → x < n → k < n → outcome (opened_of n t) h x ≡ Some g → entry_of g k ≡ None
       → crashed_in (before_decision (opened_of n t) h) k ≡ true
   absence_of x k g l kn e w =
       let (d, u) = holds x g e in
@@ -164,23 +156,23 @@ module _ (n t : ℕ) (h : List Event) (A : Account n t h) where
   quiet_of f x l c =
       let S = still_view (after_history n t h) A.along_it.closers A.along_it.sound
       (refused_events (after_history n t h) A.along_it.sound f) in
-      is_some _ (decided_is n t h A.told x
+      decided_is n t h A.told x
       ∙ quiet_end n t _ good.basic A.along_it.fit.wire
       (sizes_from n t h (λ m u. Still m u (view_of (after_history n t h) A.along_it.closers)) S) x l
-      (sym (A.told.crashed_is x) ∙ c))
+      (sym (A.told.crashed_is x) ∙ c)
 
-  shows_of : (x : ℕ) (g : GlobalData) (out : List ℕ) → x < n → n ≤ length out → outcome (opened_of n t) h x ≡ some g
-      → (show_of (after_history n t h) (suc x) out ≡ Marks g.present)
+  shows_of : (x : ℕ) (g : GlobalData) (out : List ℕ) → x < n → n ≤ length out → outcome (opened_of n t) h x ≡ Some g
+      → (show_of (after_history n t h) (suc x) out ≡ Ok g.present)
       × (shown_in (after_history n t h) (suc x) out ≡ each n (word_at g) ++ drop n out)
   shows_of x g out l r e =
       let (d, u) = holds x g e in
-      sizes_from n t h (λ m v. (show_of (after_history n t h) (suc x) out ≡ Marks g.present)
+      sizes_from n t h (λ m v. (show_of (after_history n t h) (suc x) out ≡ Ok g.present)
       × (shown_in (after_history n t h) (suc x) out ≡ each m (word_at g) ++ drop m out))
       (rw u at (shows_decided (after_history n t h) x out A.along_it.sound (sizes_to n t h (λ m v. x < m) l)
       (sizes_to n t h (λ m v. m ≤ length out) r) d))
 
-  hides_of : (x : ℕ) (out : List ℕ) → x < n → n ≤ length out → outcome (opened_of n t) h x ≡ none
-      → (show_of (after_history n t h) (suc x) out ≡ Refused (refused 11))
+  hides_of : (x : ℕ) (out : List ℕ) → x < n → n ≤ length out → outcome (opened_of n t) h x ≡ None
+      → (show_of (after_history n t h) (suc x) out ≡ Err Undecided)
       × (shown_in (after_history n t h) (suc x) out ≡ out)
   hides_of x out l r e =
       hides_undecided (after_history n t h) x out A.along_it.sound (sizes_to n t h (λ m v. x < m) l)
@@ -193,7 +185,7 @@ module _ (n t : ℕ) (h : List Event) (A : Account n t h) where
         shows = shows_of;
         hides = hides_of;
         agreement = λ x y g g' l l'. agreement_of x y g g';
-        validity = λ x k p d g l l'. validity_of x k p d g;
+        validity = λ x k v g l l'. validity_of x k v g;
         absence = absence_of;
         last_round = λ x l. last_round_of x;
         early_round = λ x l. early_round_of x;

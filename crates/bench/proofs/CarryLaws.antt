@@ -1,19 +1,19 @@
 -- Laws of carrying: what it answers by its two checks; what a carried bench holds, entry by entry; and that a bench
 -- without a value above 65,535 is kept so by every event but a start with one. Event by event: estimates and rows are
 -- made of values of starts and of entries that other estimates and rows have.
-use Rattle.std.specs.Prelude.{◌≡◌, refl, Bool, ℕ, ◌≤◌, ◌<◌, get_or}
+use Rattle.std.specs.Prelude.{◌≡◌, Bool, Option, None, Some, ℕ, ◌≤◌, ◌<◌, get_or}
 use Rattle.std.proofs.Common.{sym, ap, ap₂, ◌∙◌, ⊎_elim, arith}
 use Rattle.std.proofs.Math.Bool.{true, false}
+use Rattle.std.proofs.lemmas.Option.{none-some, same_Some}
 use Rattle.sets.specs.EveryLaws as every
 use Rattle.sets.specs.Laws.{has_empty}
 use Rattle.sets.specs.Set.{has}
 use Rattle.sets.specs.Truth.{same, less, select}
-use Rattle.sets.specs.TruthLaws.{Is, on, off, is, clash, select_on, select_off, check_on, check_off, check-zero}
+use Rattle.sets.specs.TruthLaws.{Is, on, off, is, select_on, select_off, check_on, check_off, check-zero}
 use Rattle.sets.specs.TruthLaws.{less_on, less_mk, and_first, and_second, and_mk}
 use Rattle.global_data.specs.declared.GlobalData.{GlobalData}
-use Rattle.global_data.specs.declared.Entry.{Entry}
-use Rattle.global_data.specs.declared.Entry.TheVariants.{Absent, Value}
-use Rattle.global_data.specs.GlobalData.{portions_of, diet_of, value_in, entry_of, nothing_of, one_of, fill_of, no_data}
+use Rattle.global_data.specs.GlobalData.{value_in, Entry, entry_with, entry_of, nothing_of, one_of}
+use Rattle.global_data.specs.GlobalData.{fill_of, no_data}
 use Rattle.global_data.proofs.Laws.{entry_present, entry_absent, not_both, value_present, absent_or, entry_nothing}
 use Rattle.global_data.proofs.Laws.{entry_one, or_entry_absent, or_entry_value, entry_fill, fill_from_ind}
 use Rattle.global_data.specs.WordLaws.{plain_word, value_word}
@@ -31,7 +31,7 @@ use Rattle.bench.specs.Sound.{sound_of}
 use Rattle.bench.proofs.SoundLaws.{every_on, every_mk, each_set, each-replicate}
 use Rattle.bench.proofs.RecordLaws.{InRange}
 use Rattle.bench.specs.Effect.{opens_round, rows_at, sends, arrives, closes_as, effect}
-use Rattle.bench.specs.OldRules.{OldEntry, absent, number, old_entry_of}
+use Rattle.bench.specs.OldRules.{old_entry_of}
 use Rattle.bench.specs.Carry.{plain_data, plain_process, plain_bench, carry_refusal, carry_of, plain_start}
 
 -- ---- 2, 16, or 0
@@ -50,13 +50,13 @@ module _ (s : Bench) where
 
 -- ---- no present entry above 65,535
 abbrev pub Plain : GlobalData → Type 0
-Plain g = (k v : ℕ) → k < 16 → entry_of g k ≡ value_in v → v < 65536
+Plain g = (k v : ℕ) → k < 16 → entry_of g k ≡ Some (value_in v) → v < 65536
 
 pub plain_on : (g : GlobalData) → plain_data g ≡ true → Plain g
 unfolding plain_data
 plain_on g e k v h f =
-    let p = value_present g k (portions_of v) (diet_of v) f in
-    let w = value_word _ v (sym (entry_present g k p) ∙ f) in
+    let p = value_present g k _ f in
+    let w = value_word _ v (same_Some _ _ (sym (entry_present g k p) ∙ f)) in
     rw w at (less_on _ 65536 (sym (select_on _ _ _ p) ∙ every.every_on 16 _ e k h))
 
 pub plain_mk : (g : GlobalData) → Plain g → plain_data g ≡ true
@@ -68,8 +68,8 @@ plain_mk g p = every.every_mk 16 _ (λ k h. go k h (is (has g.present k)))
     go k h (on e) = select_on _ _ _ e ∙ less_mk _ 65536 (p k _ h (entry_present g k e))
     go k h (off e) = select_off _ _ _ e
 
-plain_none : (g : GlobalData) → ((k : ℕ) → entry_of g k ≡ Absent) → Plain g
-plain_none g a k v h f = absurd (not_both (entry_of g k) (portions_of v) (diet_of v) (a k) f)
+plain_none : (g : GlobalData) → ((k : ℕ) → entry_of g k ≡ None) → Plain g
+plain_none g a k v h f = absurd (not_both (entry_of g k) _ (a k) f)
 
 plain_nothing : Plain nothing_of
 plain_nothing = plain_none nothing_of entry_nothing
@@ -82,16 +82,16 @@ plain_one a v l h k w r f = go (is (same k a))
   where
     go : Is (same k a) → w < 65536
     go (on e) =
-        let q = value_word v w (sym (select_on _ _ _ e) ∙ sym (entry_one a v k l) ∙ f) in
+        let q = value_word v w (same_Some _ _ (sym (select_on _ _ _ e) ∙ sym (entry_one a v k l) ∙ f)) in
         omega (arith, q)
     go (off e) =
-        absurd (not_both (entry_of (one_of a v) k) (portions_of w) (diet_of w) (entry_one a v k l ∙ select_off _ _ _ e) f)
+        absurd (not_both (entry_of (one_of a v) k) _ (entry_one a v k l ∙ select_off _ _ _ e) f)
 
 plain_fill : (g row : GlobalData) → Plain g → Plain row → Plain (fill_of g row)
 plain_fill g row p q k v h f =
     ⊎_elim (λ a. q k v h (sym (or_entry_absent _ _ a) ∙ sym (entry_fill g row k h) ∙ f))
     (λ (w, a).
-    let e : value_in w ≡ value_in v = sym (or_entry_value _ (entry_of row k) w a) ∙ sym (entry_fill g row k h) ∙ f in
+    let e = sym (or_entry_value _ (entry_of row k) _ a) ∙ sym (entry_fill g row k h) ∙ f in
     p k v h (a ∙ e))
     (absent_or g k)
 
@@ -213,38 +213,31 @@ plain_effect s l b (Close a) r f =
 plain_effect s l b (Crash a) r f = with_crashed_lem s b a
 plain_effect s l b (Suspect a y) r f = with_process_lem s b a _ (plain_at_lem s b a)
 
-number_of : OldEntry → ℕ
-number_of absent = 0
-number_of (number v) = v
-
-is_number : OldEntry → Bool
-is_number absent = false
-is_number (number v) = true
-
 -- ---- what a carried bench holds: of each present entry the number of before as portions, and no diet portions
-pub carried_entry_lem : (g : GlobalData) → plain_data g ≡ true → (k v : ℕ) → k < 16 → old_entry_of g k ≡ number v
-    → entry_of g k ≡ Value v 0
-unfolding old_entry_of number_of is_number
+pub carried_entry_lem : (g : GlobalData) → plain_data g ≡ true → (k v : ℕ) → k < 16 → old_entry_of g k ≡ Some v
+    → entry_of g k ≡ entry_with v 0
+unfolding old_entry_of
 carried_entry_lem g p k v h f = go (is (has g.present k))
   where
-    go : Is (has g.present k) → entry_of g k ≡ Value v 0
+    go : Is (has g.present k) → entry_of g k ≡ entry_with v 0
     go (on e) =
-        let q : get_or g.values k 0 ≡ v = ap number_of (sym (select_on _ _ _ e) ∙ f) in
-        let w = plain_word v (plain_on g p k v h (entry_present g k e ∙ ap value_in q)) in
-        entry_present g k e ∙ ap value_in q ∙ ap₂ Value w.0 w.1
-    go (off e) = clash (is_number absent) (ap is_number (sym (select_off _ _ _ e) ∙ f)) refl
+        let q : get_or g.values k 0 ≡ v = same_Some _ _ (sym (select_on _ _ _ e) ∙ f) in
+        let r = entry_present g k e ∙ ap (λ w. Some (value_in w)) q in
+        let w = plain_word v (plain_on g p k v h r) in
+        r ∙ ap₂ entry_with w.0 w.1
+    go (off e) = absurd (none-some v (sym (select_off _ _ _ e) ∙ f))
 
 -- what an entry of before becomes
-unfoldable pub carried_entry : OldEntry → Entry
-carried_entry absent = Absent
-carried_entry (number v) = Value v 0
+unfoldable pub carried_entry : Option ℕ → Entry
+carried_entry None = None
+carried_entry (Some v) = entry_with v 0
 
 carried_as : (g : GlobalData) → plain_data g ≡ true → (k : ℕ) → k < 16 → entry_of g k ≡ carried_entry (old_entry_of g k)
 unfolding carried_entry old_entry_of
 carried_as g p k h = go (is (has g.present k))
   where
     go : Is (has g.present k)
-        → entry_of g k ≡ carried_entry (select (has g.present k) (number (get_or g.values k 0)) absent)
+        → entry_of g k ≡ carried_entry (select (has g.present k) (Some (get_or g.values k 0)) None)
     go (on e) = carried_entry_lem g p k _ h (select_on _ _ _ e) ∙ ap carried_entry (sym (select_on _ _ _ e))
     go (off e) = entry_absent g k e ∙ ap carried_entry (sym (select_off _ _ _ e))
 

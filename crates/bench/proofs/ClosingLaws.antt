@@ -1,7 +1,7 @@
 -- How a round ended, as the bench passes it up: none exactly where the record is refused or is no close, next round
 -- exactly where the process that closed is then undecided, last round in round t + 1; and a run has that of the last
 -- close it stepped. A record's by the kind of its event, a run's by induction on its records.
-use Rattle.std.specs.Prelude.{◌≡◌, refl, ◌≢◌, ◌⊎◌, List, Bool, not, ℕ, zero, suc, ◌+◌, ◌<◌, length, get_or, take, drop}
+use Rattle.std.specs.Prelude.{◌≡◌, refl, ◌≢◌, ◌⊎◌, List, Bool, not, ℕ, zero, suc, ◌+◌, ◌<◌, length, get_or, take, drop, Option, Some, None, is_none, IsSomeAnd, Result, Ok, Err}
 use Rattle.std.proofs.Common.{sym, ap, ◌∙◌, inl, inr, ⊎_elim}
 use Rattle.std.proofs.Math.Bool.{true, false}
 use native.Mathlib.Omega.{arith}
@@ -9,18 +9,16 @@ use Rattle.std.proofs.Math.Seq.{get_or-set_same}
 use Rattle.sets.specs.Truth.{◌and◌, same, select}
 use Rattle.sets.specs.TruthLaws.{Is, on, off, is, select_on, select_off, same_on, same_not, same_mk, same_off}
 use Rattle.sets.specs.TruthLaws.{and_first, and_second, and_on_l, and_off_l, not_on}
-use Rattle.global_data.specs.declared.GlobalData.{GlobalData}
 use Rattle.process.specs.declared.Process.{Process}
 use Rattle.process.specs.declared.Closing.{Closing}
-use Rattle.process.specs.declared.Closing.TheVariants.{None, LastRound}
-use Rattle.process.specs.Steps.{no_process, has_decided, takes_part, agreed_of, closing_of, closing_number, opens_next}
+use Rattle.process.specs.declared.Closing.TheVariants.{LastRound}
+use Rattle.process.specs.Steps.{no_process, has_decided, takes_part, opens_next}
 use Rattle.process.specs.Steps.{close_of}
 use Rattle.process.proofs.ClosingLaws.{closing_last, next_undecided}
+use Rattle.refusal.specs.declared.Refusal.{Refusal}
 use Rattle.bench.specs.declared.Bench.{Bench}
 use Rattle.bench.specs.declared.Event.{Event}
 use Rattle.bench.specs.declared.Event.TheVariants.{Start, Send, Arrive, Close, Crash, Suspect}
-use Rattle.bench.specs.declared.Decoded.{Decoded}
-use Rattle.bench.specs.declared.Decoded.TheVariants.{Got, Refused}
 use Rattle.bench.specs.State.{process_at, with_process, with_sent}
 use Rattle.bench.specs.Record.{message_from, event_of, decode_of, decode_as}
 use Rattle.bench.proofs.RecordLaws.{InRange, decode_from, decode_range}
@@ -30,30 +28,20 @@ use Rattle.bench.specs.Refuse.{passes7, refusal}
 use Rattle.bench.proofs.RefuseLaws.{accepted, accepted_effect}
 use Rattle.bench.specs.Effect.{rows_at, opens_round, closes_as, effect}
 use Rattle.bench.specs.RunLoop.{effect_decoded, effect_by, effect_of}
-use Rattle.bench.specs.Closings.{closing_at, is_none, last_of}
+use Rattle.bench.specs.Closings.{closing_at, last_of}
 use Rattle.bench.specs.RunLoop.{closing_decoded, ends_by, closing_in}
 use Rattle.bench.specs.Calls.{run_of, after_record}
 use Rattle.bench.specs.RunLoop.{ended_of}
-use Rattle.bench.specs.LastLaws.{none_is}
 use Rattle.bench.specs.OneByOne.{rest_at, record_at, steps}
 use Rattle.bench.proofs.RunLaws.{rest_next, closing_to, run_sound, runs}
 
--- ---- one record. A close always has one; of the events by their kinds, a close alone
-pub close_some : (n t a : ℕ) (rows : ℕ → GlobalData) (p : Process) → is_none (closing_of n t a rows p) ≡ false
-unfolding is_none closing_of closing_number same select
-close_some n t a rows p = go (is (same p.round (t + 1))) (is (agreed_of n a rows p))
-  where
-    go : Is (same p.round (t + 1)) → Is (agreed_of n a rows p) → is_none (closing_of n t a rows p) ≡ false
-    go (on e) f = rw e
-    go (off e) (on f) = rw (e, f)
-    go (off e) (off f) = rw (e, f)
-
+-- ---- one record: of the events by their kinds, a close alone has one
 by_close : (s : Bench) (a b r v : ℕ) → is_none (closing_at (event_of 4 a b r v) s) ≡ not (same 4 4)
 unfolding closing_at event_of same select
-by_close s a b r v = close_some _ _ _ _ _
+by_close s a b r v = refl
 
 by_other : (s : Bench) (k a b r v : ℕ) → same k 4 ≡ false → is_none (closing_at (event_of k a b r v) s) ≡ true
-unfolding closing_at is_none closing_number event_of same select
+unfolding closing_at event_of same select
 by_other s k a b r v e = rw e (go (same k 1) (same k 2) (same k 3) (same k 5))
   where
     go : (start send arrive crash : Bool)
@@ -74,16 +62,16 @@ by_kind_lem s k a b r v = go (is (same k 4))
     go (on e) = rw (same_on k 4 e) (by_close s a b r v)
     go (off e) = by_other s k a b r v e ∙ sym (ap not e)
 
-got_event : {e f : Event} → Got e ≡ Got f → e ≡ f
-got_event {e} p = ap (λ (d : Decoded). event_from d) p
+got_event : {e f : Event} → ◌≡◌ {A = Result Event Refusal} (Ok e) (Ok f) → e ≡ f
+got_event {e} p = ap (λ (d : Result Event Refusal). event_from d) p
   where
-    event_from : Decoded → Event
-    event_from (Got x) = x
-    event_from (Refused r) = e
+    event_from : Result Event Refusal → Event
+    event_from (Ok x) = x
+    event_from (Err r) = e
 
 module _ (s : Bench) (l : List ℕ) where
   -- of an accepted record, that of its event; of a refused one none
-  pub closing_event : (e : Event) → refusal s l ≡ 0 → decode_of s.n s.t l ≡ Got e → closing_in s l ≡ closing_at e s
+  pub closing_event : (e : Event) → refusal s l ≡ 0 → decode_of s.n s.t l ≡ Ok e → closing_in s l ≡ closing_at e s
   unfolding closing_in closing_decoded ends_by decode_as refusal
   closing_event e z d = select_on _ _ _ (same_mk _ _ z) ∙ rw d
 
@@ -102,14 +90,14 @@ module _ (s : Bench) (l : List ℕ) where
           rw (closing_event w.event (same_on _ 0 e) w.decoded, f.event, and_on_l _ (same (get_or l 0 0) 4) e)
           (by_kind_lem s (get_or l 0 0) _ _ _ _)
       go (off e) =
-          rw (closing_refused (same_not _ 0 e), and_off_l _ (same (get_or l 0 0) 4) e) none_is
+          rw (closing_refused (same_not _ 0 e), and_off_l _ (same (get_or l 0 0) 4) e)
 
   -- ---- an accepted close of process a
-  module _ (a : ℕ) (z : refusal s l ≡ 0) (d : decode_of s.n s.t l ≡ Got (Close a)) where
+  module _ (a : ℕ) (z : refusal s l ≡ 0) (d : decode_of s.n s.t l ≡ Ok (Close a)) where
     -- in round t + 1 it is the last round, whatever the estimates are
-    pub closing_last_round : (process_at s a).round ≡ s.t + 1 → closing_in s l ≡ LastRound
+    pub closing_last_round : (process_at s a).round ≡ s.t + 1 → closing_in s l ≡ Some LastRound
     unfolding closing_at
-    closing_last_round e = closing_event (Close a) z d ∙ closing_last _ _ _ _ _ e
+    closing_last_round e = closing_event (Close a) z d ∙ ap Some (closing_last _ _ _ _ _ e)
 
     -- the process as it closes, which is what then stands there
     abbrev closed : Process
@@ -132,7 +120,7 @@ module _ (s : Bench) (l : List ℕ) where
 
     -- it is next round exactly where the process is then undecided; every bench has 16 processes
     pub closing_undecided : length s.processes ≡ 16
-        → opens_next (closing_in s l) ≡ not (has_decided (process_at (after_record s l) a))
+        → IsSomeAnd (closing_in s l) (λ c. opens_next c ≡ not (has_decided (process_at (after_record s l) a)))
     unfolding closing_at effect effect_of effect_decoded InRange effect_by decode_as
     closing_undecided h =
         let low : a < 16 = omega (
@@ -145,11 +133,11 @@ module _ (s : Bench) (l : List ℕ) where
 
 -- ---- a run
 -- the closing of record i, from 0, with all before it stepped
-abbrev of_record : Bench → List ℕ → ℕ → Closing
+abbrev of_record : Bench → List ℕ → ℕ → Option Closing
 of_record s l i = closing_in (steps i s l) (record_at i l)
 
 -- x is that of the last close among the first k records
-pub record LastClose (k : ℕ) (s : Bench) (l : List ℕ) (x : Closing) : Type 0 where
+pub record LastClose (k : ℕ) (s : Bench) (l : List ℕ) (x : Option Closing) : Type 0 where
   pub i : ℕ
   pub within : i < k
   pub gives : x ≡ of_record s l i
@@ -166,7 +154,7 @@ unfolding steps record_at rest_at
 first s l = refl
 
 -- what k records give one by one, c before them: that of the last close among them, and without one c
-pub closing_to_lem : (k : ℕ) (s : Bench) (l : List ℕ) (c : Closing)
+pub closing_to_lem : (k : ℕ) (s : Bench) (l : List ℕ) (c : Option Closing)
     → LastClose k s l (closing_to k s l c)
     ⊎ ((closing_to k s l c ≡ c) × ((j : ℕ) → j < k → is_none (of_record s l j) ≡ true))
 unfolding closing_to last_of
@@ -177,7 +165,7 @@ closing_to_lem (suc k) s l c =
     s' : Bench
     s' = after_record s (take 8 l)
 
-    x : Closing
+    x : Option Closing
     x = closing_to k s' (drop 8 l) (last_of c (closing_in s (take 8 l)))
 
     later : LastClose k s' (drop 8 l) x

@@ -2,22 +2,21 @@
 -- diet portions exceed the portions. And no refusal of a record looks at the words that a bench holds: a bench with
 -- such an entry passes 2, and is stepped.
 -- Each check is taken apart; a bench with its words erased is refused what the bench is.
-use Rattle.std.specs.Prelude.{◌≡◌, refl, List, [], ◌∷◌, map, Bool, true, false, ℕ, zero, suc, ◌≤◌, ◌<◌, get_or}
+use Rattle.std.specs.Prelude.{◌≡◌, refl, List, [], ◌∷◌, map, Bool, true, false, ℕ, zero, suc, ◌<◌, get_or, Result, Ok, Err}
 use Rattle.std.proofs.Common.{sym, ap, ap₂, ◌∙◌, arith}
 use Rattle.sets.specs.Lists.{every_in}
 use Rattle.sets.specs.Truth.{◌and◌, check}
-use Rattle.sets.specs.TruthLaws.{Is, on, off, is, clash, check_on, check_off}
+use Rattle.sets.specs.TruthLaws.{Is, on, off, is, clash}
 use Rattle.global_data.specs.declared.GlobalData.{GlobalData}
 use Rattle.global_data.specs.GlobalData.{portions_of, diet_of}
 use Rattle.global_data.specs.WordLaws.{fits_not, fits_off}
 use Rattle.process.specs.declared.Process.{Process}
 use Rattle.process.specs.Fields.{with_estimate}
 use Rattle.process.specs.Steps.{no_process, has_decided, takes_part, arrived_of, due_of}
+use Rattle.refusal.specs.declared.Refusal.{Refusal}
 use Rattle.bench.specs.declared.Bench.{Bench}
 use Rattle.bench.specs.declared.Event.{Event}
 use Rattle.bench.specs.declared.Event.TheVariants.{Start, Send, Arrive, Close, Crash, Suspect}
-use Rattle.bench.specs.declared.Decoded.{Decoded}
-use Rattle.bench.specs.declared.Decoded.TheVariants.{Got, Refused}
 use Rattle.bench.specs.State.{process_at, transit_at, crashed_at, bench_of}
 use Rattle.bench.specs.Sound.{sound_data, sound_process, sound_of}
 use Rattle.bench.specs.Record.{read_of, start_fits, check_diet, decode_of}
@@ -25,13 +24,13 @@ use Rattle.bench.proofs.RecordLaws.{diet_fit, diet_unfit, diet_refused, read_ref
 use Rattle.bench.specs.Record.{decode_as}
 use Rattle.bench.specs.Refuse.{refusal_by, refusal}
 use Rattle.bench.specs.Refuse.{passes7, passes8, passes9, refuses, refuses_decoded}
-use Rattle.bench.proofs.RefuseLaws.{refusal_damaged, refusal_unread, refusal_event}
+use Rattle.bench.proofs.RefuseLaws.{refuses_low, refusal_damaged, refusal_unread, refusal_event}
 
 -- ---- 15, and the record that has it
 pub record TooMuchDiet (n t : ℕ) (bytes : List ℕ) : Type 0 where
   pub process : ℕ
   pub value : ℕ
-  pub start : read_of n t bytes ≡ Got (Start process value)
+  pub start : read_of n t bytes ≡ Ok (Start process value)
   pub exceeds : portions_of value < diet_of value
 
 -- such a record is refused by 15, whatever the bench is, if it is not damaged
@@ -39,27 +38,12 @@ pub refused_15 : (s : Bench) (l : List ℕ) → sound_of s ≡ true → TooMuchD
 unfolding decode_of start_fits
 refused_15 s l h w =
     refusal_unread s l h _
-    (ap check_diet w.start ∙ diet_unfit (Start w.process w.value) (fits_off _ _ w.exceeds))
-
--- the checks after it have lower numbers
-check_low : (m k x : ℕ) (b : Bool) → k ≤ m → x ≤ m → check b k x ≤ m
-check_low m k x b h g = go (is b)
-  where
-    go : Is b → check b k x ≤ m
-    go (on e) = rw (check_on b k x e) g
-    go (off e) = rw (check_off b k x e) h
-
-refuses_low : (e : Event) (s : Bench) → refuses e s ≤ 9
-unfolding refuses
-refuses_low e s =
-    check_low 9 6 _ _ (omega arith)
-    (check_low 9 7 _ _ (omega arith)
-    (check_low 9 8 _ _ (omega arith) (check_low 9 9 _ _ (omega arith) (omega arith))))
+    (ap check_diet w.start ∙ diet_unfit (Start w.process w.value) (fits_off _ w.exceeds))
 
 -- an event that does not pass is a start
-unfit_start : (n t : ℕ) (l : List ℕ) (e : Event) → read_of n t l ≡ Got e → start_fits e ≡ false → TooMuchDiet n t l
+unfit_start : (n t : ℕ) (l : List ℕ) (e : Event) → read_of n t l ≡ Ok e → start_fits e ≡ false → TooMuchDiet n t l
 unfolding start_fits
-unfit_start n t l (Start a v) p f = record { process = a; value = v; start = p; exceeds = fits_not _ _ f }
+unfit_start n t l (Start a v) p f = record { process = a; value = v; start = p; exceeds = fits_not _ f }
 unfit_start n t l (Send a b) p f = clash true refl f
 unfit_start n t l (Arrive a b m) p f = clash true refl f
 unfit_start n t l (Close a) p f = clash true refl f
@@ -71,7 +55,7 @@ pub only_15 : (s : Bench) (l : List ℕ) → refusal s l ≡ 15 → TooMuchDiet 
 unfolding decode_of
 only_15 s l q = sound (is (sound_of s))
   where
-    started : sound_of s ≡ true → (e : Event) → read_of s.n s.t l ≡ Got e → Is (start_fits e)
+    started : sound_of s ≡ true → (e : Event) → read_of s.n s.t l ≡ Ok e → Is (start_fits e)
         → TooMuchDiet s.n s.t l
     started h e p (on f) =
         absurd (omega (
@@ -81,9 +65,9 @@ only_15 s l q = sound (is (sound_of s))
         ))
     started h e p (off f) = unfit_start s.n s.t l e p f
 
-    read : sound_of s ≡ true → (d : Decoded) → read_of s.n s.t l ≡ d → TooMuchDiet s.n s.t l
-    read h (Got e) p = started h e p (is (start_fits e))
-    read h (Refused r) p =
+    read : sound_of s ≡ true → (d : Result Event Refusal) → read_of s.n s.t l ≡ d → TooMuchDiet s.n s.t l
+    read h (Ok e) p = started h e p (is (start_fits e))
+    read h (Err r) p =
         absurd (omega (
           arith,
           (read_refused s.n s.t l r p).1,
@@ -157,9 +141,9 @@ unfolding refusal refusal_by decode_as refuses_decoded erased
 refusal-erased s l =
     ap₂ (λ b k. check b 2 k) (sound_erased s) (decoded (decode_of s.n s.t l))
   where
-    decoded : (d : Decoded) → refuses_decoded d (erased s) ≡ refuses_decoded d s
-    decoded (Got e) = refuses-erased e s
-    decoded (Refused r) = refl
+    decoded : (d : Result Event Refusal) → refuses_decoded d (erased s) ≡ refuses_decoded d s
+    decoded (Ok e) = refuses-erased e s
+    decoded (Err r) = refl
 
 -- so two benches that are the same but for words refuse the same, damaged or not
 pub words_unseen : (s s' : Bench) → erased s ≡ erased s' → (l : List ℕ) → refusal s l ≡ refusal s' l

@@ -1,7 +1,7 @@
 -- The rules before request C-15 beside those of now. A word compared as one number, or as portions and diet portions,
 -- is compared the same (`same_words`), so that an event does the same by both; they differ in refusal 15 alone.
 -- And by either an accepted record is that of an event in range that is let through, with its effect.
-use Rattle.std.specs.Prelude.{◌≡◌, refl, ◌≢◌, List, Bool, true, false, not, ℕ, ◌+◌, length}
+use Rattle.std.specs.Prelude.{◌≡◌, refl, ◌≢◌, List, Bool, true, false, not, ℕ, ◌+◌, length, Some, None, Result, Ok, Err, None as absent}
 use Rattle.std.proofs.Math.Path.{sym, ap, ap₂, fun_ext}
 use Rattle.std.proofs.Common.{◌∙◌, arith}
 use Rattle.sets.specs.Lists.{every}
@@ -12,15 +12,14 @@ use Rattle.global_data.specs.declared.GlobalData.{GlobalData}
 use Rattle.global_data.specs.GlobalData.{entry_by, entry_of, same_entry, same_to, all_same}
 use Rattle.global_data.specs.WordLaws.{same_words}
 use Rattle.process.specs.declared.Process.{Process}
-use Rattle.process.specs.declared.Closing.TheVariants.{None, NextRound, Agreed, LastRound}
+use Rattle.process.specs.declared.Closing.TheVariants.{NextRound, Agreed, LastRound}
 use Rattle.process.specs.Steps.{next_of, peers_of, filled_of, agreed_of, closing_of, decides_of, opens_next}
 use Rattle.process.specs.Steps.{advance_of, owed_of, decide_of, close_of}
 use Rattle.bench.specs.declared.Bench.{Bench}
-use Rattle.bench.specs.declared.Refusal.{Refusal}
+use Rattle.refusal.specs.declared.Refusal.{Refusal}
+use Rattle.refusal.specs.Numbers.{refusal_number}
 use Rattle.bench.specs.declared.Event.{Event}
 use Rattle.bench.specs.declared.Event.TheVariants.{Start, Send, Arrive, Close, Crash, Suspect}
-use Rattle.bench.specs.declared.Decoded.{Decoded}
-use Rattle.bench.specs.declared.Decoded.TheVariants.{Got, Refused}
 use Rattle.bench.specs.State.{process_at}
 use Rattle.bench.specs.Sound.{sound_of}
 use Rattle.bench.proofs.SoundLaws.{sound_effect}
@@ -31,12 +30,12 @@ use Rattle.bench.specs.Effect.{rows_at, closes_as, effect}
 use Rattle.bench.specs.RunLoop.{effect_decoded, effect_by}
 use Rattle.bench.specs.Closings.{closing_at}
 use Rattle.bench.specs.RunLoop.{closing_decoded, ends_by}
-use Rattle.bench.specs.OldRules.{absent, number, old_entry_of, old_same_entry, old_same_to, old_agreed}
+use Rattle.bench.specs.OldRules.{old_entry_of, old_same_entry, old_same_to, old_agreed}
 use Rattle.bench.specs.OldRules.{old_closing_of, old_close_of, old_effect, old_closing_at}
 
 -- ---- one number is compared as its two halves are
 entry_alike : (b c : Bool) (v w : ℕ)
-    → old_same_entry (select b (number v) absent) (select c (number w) absent) ≡ same_entry (entry_by b v) (entry_by c w)
+    → old_same_entry (select b (Some v) absent) (select c (Some w) absent) ≡ same_entry (entry_by b v) (entry_by c w)
 unfolding old_same_entry same_entry select
 entry_alike true true v w = sym (same_words v w)
 entry_alike true false v w = refl
@@ -89,39 +88,39 @@ unfolding old_closing_at closing_at
 old_closing_at_lem (Start a v) s = refl
 old_closing_at_lem (Send a b) s = refl
 old_closing_at_lem (Arrive a b m) s = refl
-old_closing_at_lem (Close a) s = old_closing s.n s.t a (rows_at s (process_at s a).round) (process_at s a)
+old_closing_at_lem (Close a) s = ap Some (old_closing s.n s.t a (rows_at s (process_at s a).round) (process_at s a))
 old_closing_at_lem (Crash a) s = refl
 old_closing_at_lem (Suspect a b) s = refl
 
 -- ---- by the rules of either form
 -- what is accepted was decoded to an event that is let through
-record Through (d : Decoded) (s : Bench) : Type 0 where
+record Through (d : Result Event Refusal) (s : Bench) : Type 0 where
   sound : sound_of s ≡ true
   event : Event
-  got : d ≡ Got event
+  got : d ≡ Ok event
   passes : refuses event s ≡ 0
 
-let_through : (d : Decoded) (s : Bench) → ((r : Refusal) → d ≡ Refused r → r.number ≢ 0)
+let_through : (d : Result Event Refusal) (s : Bench) → ((r : Refusal) → d ≡ Err r → refusal_number r ≢ 0)
     → check (sound_of s) 2 (refuses_decoded d s) ≡ 0 → Through d s
 unfolding refuses_decoded
-let_through (Got e) s f z =
+let_through (Ok e) s f z =
     let c = check-zero (sound_of s) 2 (refuses e s) (omega arith) z in
     record { sound = c.0; event = e; got = refl; passes = c.1 }
-let_through (Refused r) s f z =
-    absurd (f r refl (check-zero (sound_of s) 2 r.number (omega arith) z).1)
+let_through (Err r) s f z =
+    absurd (f r refl (check-zero (sound_of s) 2 (refusal_number r) (omega arith) z).1)
 
 -- either decoder refuses by a number, and gives events in range
-as_refused : (f : Form) (n t : ℕ) (l : List ℕ) (r : Refusal) → decode_as f n t l ≡ Refused r → r.number ≢ 0
+as_refused : (f : Form) (n t : ℕ) (l : List ℕ) (r : Refusal) → decode_as f n t l ≡ Err r → refusal_number r ≢ 0
 unfolding decode_as
 as_refused v1 n t l r q h = omega (arith, (read_refused n t l r q).0, h)
 as_refused v2 n t l r q h = decode_refused n t l r q h
 
-as_range : (f : Form) (n t : ℕ) (l : List ℕ) (e : Event) → decode_as f n t l ≡ Got e → InRange n t e
+as_range : (f : Form) (n t : ℕ) (l : List ℕ) (e : Event) → decode_as f n t l ≡ Ok e → InRange n t e
 unfolding decode_as
 as_range v1 n t l e q = read_range n t l e q
 as_range v2 n t l e q = read_range n t l e (decode_read n t l e q).0
 
-as_size : (f : Form) (n t : ℕ) (l : List ℕ) (e : Event) → decode_as f n t l ≡ Got e → length l ≡ 8
+as_size : (f : Form) (n t : ℕ) (l : List ℕ) (e : Event) → decode_as f n t l ≡ Ok e → length l ≡ 8
 unfolding decode_as
 as_size v1 n t l e q = (read_from n t l e q).size
 as_size v2 n t l e q = (read_from n t l e (decode_read n t l e q).0).size
@@ -129,7 +128,7 @@ as_size v2 n t l e q = (read_from n t l e (decode_read n t l e q).0).size
 pub record Taken (f : Form) (s : Bench) (l : List ℕ) : Type 0 where
   pub sound : sound_of s ≡ true
   pub event : Event
-  pub decoded : decode_as f s.n s.t l ≡ Got event
+  pub decoded : decode_as f s.n s.t l ≡ Ok event
   pub range : InRange s.n s.t event
   pub size : length l ≡ 8
   pub passes : refuses event s ≡ 0

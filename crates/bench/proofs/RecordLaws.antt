@@ -3,7 +3,7 @@
 -- A decoded record has its parts by the tests that let it through; an event's bytes are read back digit by digit.
 use Rattle.std.proofs.Math.Path.{◌≡◌, refl, sym, ap}
 use Rattle.std.proofs.Common.{ap₂, ◌∙◌, arith, lit<}
-use Rattle.std.specs.Prelude.{◌≢◌, List, [], ◌∷◌, Bool, true, false, not, ℕ, zero, suc, ◌+◌, ◌-◌, ◌*◌, ◌/◌, ◌%◌, ◌≤◌, ◌<◌, eqb, get_or, length}
+use Rattle.std.specs.Prelude.{◌≢◌, List, [], ◌∷◌, Bool, true, false, not, ℕ, zero, suc, ◌+◌, ◌-◌, ◌*◌, ◌/◌, ◌%◌, ◌≤◌, ◌<◌, eqb, get_or, length, Result, Ok, Err, Some}
 use Rattle.std.proofs.Math.Nat.{div-div-eq-div-mul}
 use Rattle.sets.specs.Truth.{◌and◌, ◌or◌, same, less, select, one_to}
 use Rattle.sets.specs.TruthLaws.{one_low, one_high, one_mk, Is, on, off, is, select_on, select_off, and_first}
@@ -11,13 +11,14 @@ use Rattle.sets.specs.TruthLaws.{and_second, and_mk, or_off_l, or_mk_l, not_on, 
 use Rattle.sets.specs.TruthLaws.{less_on, less_mk}
 use Rattle.global_data.specs.GlobalData.{portions_of, diet_of, value_in, diet_fits}
 use Rattle.global_data.specs.WordLaws.{fits_mk}
-use Rattle.bench.specs.declared.Refusal.{Refusal}
+use Rattle.refusal.specs.declared.Refusal.{Refusal}
+use Rattle.refusal.specs.declared.Refusal.TheVariants.{Length, Kind, Field, Diet}
+use Rattle.refusal.specs.Numbers.{refusal_number}
+use Rattle.refusal.proofs.NumberLaws.{number_range}
 use Rattle.bench.specs.declared.Message.{Message}
 use Rattle.bench.specs.declared.Message.TheVariants.{Estimate, Decision}
 use Rattle.bench.specs.declared.Event.{Event}
 use Rattle.bench.specs.declared.Event.TheVariants.{Start, Send, Arrive, Close, Crash, Suspect}
-use Rattle.bench.specs.declared.Decoded.{Decoded}
-use Rattle.bench.specs.declared.Decoded.TheVariants.{Got, Refused}
 use Rattle.bench.specs.Record.{word_of, uses_b}
 use Rattle.bench.specs.Record.{fields, message_from, event_of, parts_of}
 use Rattle.bench.specs.Record.{value_of, read_of, start_fits, check_diet, decode_of}
@@ -30,23 +31,23 @@ value_parts a b c d h k = (omega arith, omega arith)
 
 -- ---- a record's parts: refusal 4, refusal 5, or the event
 module _ (n t kind a b r v : ℕ) where
-  pub parts_unknown : one_to 6 kind ≡ false → parts_of n t kind a b r v ≡ Refused (record { number = 4 })
+  pub parts_unknown : one_to 6 kind ≡ false → parts_of n t kind a b r v ≡ Err Kind
   unfolding parts_of
   parts_unknown e = select_off _ _ _ e
 
   pub parts_unfit : one_to 6 kind ≡ true → fields n t kind a b r v ≡ false
-      → parts_of n t kind a b r v ≡ Refused (record { number = 5 })
+      → parts_of n t kind a b r v ≡ Err Field
   unfolding parts_of
   parts_unfit e f = select_on _ _ _ e ∙ select_off _ _ _ f
 
   pub parts_got : one_to 6 kind ≡ true → fields n t kind a b r v ≡ true
-      → parts_of n t kind a b r v ≡ Got (event_of kind (a - 1) (b - 1) r v)
+      → parts_of n t kind a b r v ≡ Ok (event_of kind (a - 1) (b - 1) r v)
   unfolding parts_of
   parts_got e f = select_on _ _ _ e ∙ select_on _ _ _ f
 
 -- ---- bytes: refusal 3, or the parts
 module _ (n t : ℕ) (l : List ℕ) where
-  read_size : length l ≢ 8 → read_of n t l ≡ Refused (record { number = 3 })
+  read_size : length l ≢ 8 → read_of n t l ≡ Err Length
   unfolding read_of
   read_size h = select_off _ _ _ (same_off (length l) 8 h)
 
@@ -64,8 +65,8 @@ pub record From (n t : ℕ) (l : List ℕ) (e : Event) : Type 0 where
 
 -- refused for one of the numbers 3, 4 and 5, or got
 data Outcome (n t : ℕ) (l : List ℕ) : Type 0 where
-  refused_by : (k : ℕ) → (3 ≤ k) × (k ≤ 5) → read_of n t l ≡ Refused (record { number = k }) → Outcome n t l
-  got_from : (e : Event) → From n t l e → read_of n t l ≡ Got e → Outcome n t l
+  refused_by : (r : Refusal) → (3 ≤ refusal_number r) × (refusal_number r ≤ 5) → read_of n t l ≡ Err r → Outcome n t l
+  got_from : (e : Event) → From n t l e → read_of n t l ≡ Ok e → Outcome n t l
 
 outcome : (n t : ℕ) (l : List ℕ) → Outcome n t l
 outcome n t l = sized (is (same (length l) 8))
@@ -76,45 +77,45 @@ outcome n t l = sized (is (same (length l) 8))
         got_from _ (record { size = h; kind = k; fit = p; event = refl })
         (read_parts n t l h ∙ parts_got n t (get_or l 0 0) (get_or l 1 0) (get_or l 2 0) (get_or l 3 0) (value_of l) k p)
     fitting h k (off p) =
-        refused_by 5 (omega arith, omega arith)
+        refused_by Field (omega arith, omega arith)
         (read_parts n t l h ∙ parts_unfit n t (get_or l 0 0) (get_or l 1 0) (get_or l 2 0) (get_or l 3 0) (value_of l) k p)
 
     known : length l ≡ 8 → Is (one_to 6 (get_or l 0 0)) → Outcome n t l
     known h (on k) = fitting h k (is (fields n t (get_or l 0 0) (get_or l 1 0) (get_or l 2 0) (get_or l 3 0) (value_of l)))
     known h (off k) =
-        refused_by 4 (omega arith, omega arith)
+        refused_by Kind (omega arith, omega arith)
         (read_parts n t l h ∙ parts_unknown n t (get_or l 0 0) (get_or l 1 0) (get_or l 2 0) (get_or l 3 0) (value_of l) k)
 
     sized : Is (same (length l) 8) → Outcome n t l
     sized (on h) = known (same_on (length l) 8 h) (is (one_to 6 (get_or l 0 0)))
-    sized (off h) = refused_by 3 (omega arith, omega arith) (read_size n t l (same_not (length l) 8 h))
+    sized (off h) = refused_by Length (omega arith, omega arith) (read_size n t l (same_not (length l) 8 h))
 
-pub read_from : (n t : ℕ) (l : List ℕ) (e : Event) → read_of n t l ≡ Got e → From n t l e
+pub read_from : (n t : ℕ) (l : List ℕ) (e : Event) → read_of n t l ≡ Ok e → From n t l e
 read_from n t l e p = go (outcome n t l)
   where
     go : Outcome n t l → From n t l e
     go (refused_by k h q) = absurd (let z : ◌≡◌ {A = ℕ} 0 1 = cc in omega arith)
     go (got_from e' f q) = let z : e' ≡ e = cc in rw z at f
 
-pub read_refused : (n t : ℕ) (l : List ℕ) (r : Refusal) → read_of n t l ≡ Refused r
-    → (3 ≤ r.number) × (r.number ≤ 5)
+pub read_refused : (n t : ℕ) (l : List ℕ) (r : Refusal) → read_of n t l ≡ Err r
+    → (3 ≤ refusal_number r) × (refusal_number r ≤ 5)
 read_refused n t l r p = go (outcome n t l)
   where
-    go : Outcome n t l → (3 ≤ r.number) × (r.number ≤ 5)
-    go (refused_by k h q) = let z : k ≡ r.number = cc in rw z at h
+    go : Outcome n t l → (3 ≤ refusal_number r) × (refusal_number r ≤ 5)
+    go (refused_by r' h q) = let z : r' ≡ r = cc in rw z at h
     go (got_from e f q) = absurd (let z : ◌≡◌ {A = ℕ} 0 1 = cc in omega arith)
 
 -- ---- refusal 15, of what was read
 module _ (e : Event) where
-  pub diet_fit : start_fits e ≡ true → check_diet (Got e) ≡ Got e
+  pub diet_fit : start_fits e ≡ true → check_diet (Ok e) ≡ Ok e
   unfolding check_diet
   diet_fit h = select_on _ _ _ h
 
-  pub diet_unfit : start_fits e ≡ false → check_diet (Got e) ≡ Refused (record { number = 15 })
+  pub diet_unfit : start_fits e ≡ false → check_diet (Ok e) ≡ Err Diet
   unfolding check_diet
   diet_unfit h = select_off _ _ _ h
 
-pub diet_refused : (r : Refusal) → check_diet (Refused r) ≡ Refused r
+pub diet_refused : (r : Refusal) → check_diet (Err r) ≡ Err r
 unfolding check_diet
 diet_refused r = refl
 
@@ -130,52 +131,54 @@ others_fit a b m false false false true = refl
 others_fit a b m false false false false = refl
 
 -- of a record's kind and value, as the code tests it
-pub start_fits_lem : (kind a b r v : ℕ) → start_fits (event_of kind a b r v) ≡ (not (same kind 1) or diet_fits (value_in v))
+pub start_fits_lem : (kind a b r v : ℕ)
+    → start_fits (event_of kind a b r v) ≡ (not (same kind 1) or diet_fits (Some (value_in v)))
 unfolding start_fits event_of
 start_fits_lem kind a b r v = go (is (same kind 1))
   where
-    go : Is (same kind 1) → start_fits (event_of kind a b r v) ≡ (not (same kind 1) or diet_fits (value_in v))
+    go : Is (same kind 1) → start_fits (event_of kind a b r v) ≡ (not (same kind 1) or diet_fits (Some (value_in v)))
     go (on e) = ap start_fits (select_on _ _ _ e) ∙ sym (or_off_l _ _ (ap not e))
     go (off e) = ap start_fits (select_off _ _ _ e) ∙ others_fit _ _ _ _ _ _ _ ∙ sym (or_mk_l _ _ (ap not e))
 
 -- a record of a known kind: refusal 5, refusal 15, or the event
 module _ (n t kind a b r v : ℕ) (known : one_to 6 kind ≡ true) where
   pub checked_unfit : fields n t kind a b r v ≡ false
-      → check_diet (parts_of n t kind a b r v) ≡ Refused (record { number = 5 })
+      → check_diet (parts_of n t kind a b r v) ≡ Err Field
   checked_unfit f = ap check_diet (parts_unfit n t kind a b r v known f) ∙ diet_refused _
 
-  pub checked_diet : fields n t kind a b r v ≡ true → (not (same kind 1) or diet_fits (value_in v)) ≡ false
-      → check_diet (parts_of n t kind a b r v) ≡ Refused (record { number = 15 })
+  pub checked_diet : fields n t kind a b r v ≡ true → (not (same kind 1) or diet_fits (Some (value_in v))) ≡ false
+      → check_diet (parts_of n t kind a b r v) ≡ Err Diet
   checked_diet f d =
       ap check_diet (parts_got n t kind a b r v known f) ∙ diet_unfit _ (start_fits_lem kind (a - 1) (b - 1) r v ∙ d)
 
-  pub checked_got : fields n t kind a b r v ≡ true → (not (same kind 1) or diet_fits (value_in v)) ≡ true
-      → check_diet (parts_of n t kind a b r v) ≡ Got (event_of kind (a - 1) (b - 1) r v)
+  pub checked_got : fields n t kind a b r v ≡ true → (not (same kind 1) or diet_fits (Some (value_in v))) ≡ true
+      → check_diet (parts_of n t kind a b r v) ≡ Ok (event_of kind (a - 1) (b - 1) r v)
   checked_got f d =
       ap check_diet (parts_got n t kind a b r v known f) ∙ diet_fit _ (start_fits_lem kind (a - 1) (b - 1) r v ∙ d)
 
 -- what is decoded was read, and passes
-pub decode_read : (n t : ℕ) (l : List ℕ) (e : Event) → decode_of n t l ≡ Got e
-    → (read_of n t l ≡ Got e) × (start_fits e ≡ true)
+pub decode_read : (n t : ℕ) (l : List ℕ) (e : Event) → decode_of n t l ≡ Ok e
+    → (read_of n t l ≡ Ok e) × (start_fits e ≡ true)
 unfolding decode_of
 decode_read n t l e p = go (read_of n t l) p
   where
-    go : (d : Decoded) → check_diet d ≡ Got e → (d ≡ Got e) × (start_fits e ≡ true)
-    go (Got e') p = fit e' p (is (start_fits e'))
+    go : (d : Result Event Refusal) → check_diet d ≡ Ok e → (d ≡ Ok e) × (start_fits e ≡ true)
+    go (Ok e') p = fit e' p (is (start_fits e'))
       where
-        fit : (e' : Event) → check_diet (Got e') ≡ Got e → Is (start_fits e') → (Got e' ≡ Got e) × (start_fits e ≡ true)
+        fit : (e' : Event) → check_diet (Ok e') ≡ Ok e → Is (start_fits e')
+            → (◌≡◌ {A = Result Event Refusal} (Ok e') (Ok e)) × (start_fits e ≡ true)
         fit e' p (on h) =
-            let q : Got e' ≡ Got e = sym (diet_fit e' h) ∙ p in
+            let q : ◌≡◌ {A = Result Event Refusal} (Ok e') (Ok e) = sym (diet_fit e' h) ∙ p in
             let z : e' ≡ e = cc in (q, rw z at h)
         fit e' p (off h) =
-            let q : Refused (record { number = 15 }) ≡ Got e = sym (diet_unfit e' h) ∙ p in
+            let q : ◌≡◌ {A = Result Event Refusal} (Err Diet) (Ok e) = sym (diet_unfit e' h) ∙ p in
             absurd (let z : ◌≡◌ {A = ℕ} 0 1 = cc in omega arith)
-    go (Refused r) p =
-        let q : Refused r ≡ Got e = sym (diet_refused r) ∙ p in
+    go (Err r) p =
+        let q : ◌≡◌ {A = Result Event Refusal} (Err r) (Ok e) = sym (diet_refused r) ∙ p in
         absurd (let z : ◌≡◌ {A = ℕ} 0 1 = cc in omega arith)
 
 module _ (n t : ℕ) (l : List ℕ) where
-  pub decode_size : length l ≢ 8 → decode_of n t l ≡ Refused (record { number = 3 })
+  pub decode_size : length l ≢ 8 → decode_of n t l ≡ Err Length
   unfolding decode_of
   decode_size h = ap check_diet (read_size n t l h) ∙ diet_refused _
 
@@ -184,26 +187,26 @@ module _ (n t : ℕ) (l : List ℕ) where
   unfolding decode_of
   decode_parts h = ap check_diet (read_parts n t l h)
 
-  pub decode_from : (e : Event) → decode_of n t l ≡ Got e → From n t l e
+  pub decode_from : (e : Event) → decode_of n t l ≡ Ok e → From n t l e
   decode_from e p = read_from n t l e (decode_read n t l e p).0
 
   -- 3, 4, 5 or 15
-  pub decode_refused : (r : Refusal) → decode_of n t l ≡ Refused r → r.number ≢ 0
+  pub decode_refused : (r : Refusal) → decode_of n t l ≡ Err r → refusal_number r ≢ 0
   unfolding decode_of
   decode_refused r p = go (read_of n t l) refl p
     where
-      unfit : (e : Event) → Is (start_fits e) → check_diet (Got e) ≡ Refused r → r.number ≢ 0
+      unfit : (e : Event) → Is (start_fits e) → check_diet (Ok e) ≡ Err r → refusal_number r ≢ 0
       unfit e (on h) q =
-          let z : Got e ≡ Refused r = sym (diet_fit e h) ∙ q in
+          let z : ◌≡◌ {A = Result Event Refusal} (Ok e) (Err r) = sym (diet_fit e h) ∙ q in
           absurd (let y : ◌≡◌ {A = ℕ} 0 1 = cc in omega arith)
       unfit e (off h) q =
-          let z : Refused (record { number = 15 }) ≡ Refused r = sym (diet_unfit e h) ∙ q in
-          let y : 15 ≡ r.number = cc in λ w. omega (arith, y, w)
+          let z : ◌≡◌ {A = Result Event Refusal} (Err Diet) (Err r) = sym (diet_unfit e h) ∙ q in
+          let y : Diet ≡ r = cc in λ w. omega (arith, number_range r, w)
 
-      go : (d : Decoded) → read_of n t l ≡ d → check_diet d ≡ Refused r → r.number ≢ 0
-      go (Got e) u q = unfit e (is (start_fits e)) q
-      go (Refused r') u q =
-          let z : Refused r' ≡ Refused r = sym (diet_refused r') ∙ q in
+      go : (d : Result Event Refusal) → read_of n t l ≡ d → check_diet d ≡ Err r → refusal_number r ≢ 0
+      go (Ok e) u q = unfit e (is (start_fits e)) q
+      go (Err r') u q =
+          let z : Err r' ≡ Err r = sym (diet_refused r') ∙ q in
           let y : r' ≡ r = cc in
           let b = rw y at (read_refused n t l r' u) in λ w. omega (arith, b.0, w)
 
@@ -287,12 +290,12 @@ fields_range n t a b r v =
               (and_first z y (and_second q (z and y) (and_second (one_to n a) (q and (z and y)) e))),
         )
 
-pub read_range : (n t : ℕ) (l : List ℕ) (e : Event) → read_of n t l ≡ Got e → InRange n t e
+pub read_range : (n t : ℕ) (l : List ℕ) (e : Event) → read_of n t l ≡ Ok e → InRange n t e
 read_range n t l e p =
     let f = read_from n t l e p in
     rw f.event (fields_range n t (get_or l 1 0) (get_or l 2 0) (get_or l 3 0) (value_of l) (get_or l 0 0) f.kind f.fit)
 
-pub decode_range : (n t : ℕ) (l : List ℕ) (e : Event) → decode_of n t l ≡ Got e → InRange n t e
+pub decode_range : (n t : ℕ) (l : List ℕ) (e : Event) → decode_of n t l ≡ Ok e → InRange n t e
 decode_range n t l e p = read_range n t l e (decode_read n t l e p).0
 
 -- ---- the bytes of an event
@@ -311,7 +314,7 @@ encode_of (Suspect a b) = bytes_of 6 (a + 1) (b + 1) 0 0
 
 -- a value has 32 bits, and its diet portions do not exceed its portions
 unfoldable pub ValueFits : Event → Type 0
-ValueFits (Start a v) = (v < 4294967296) × (diet_fits (value_in v) ≡ true)
+ValueFits (Start a v) = (v < 4294967296) × (diet_fits (Some (value_in v)) ≡ true)
 ValueFits (Send a b) = Unit
 ValueFits (Arrive a b m) = Unit
 ValueFits (Close a) = Unit
@@ -321,7 +324,7 @@ ValueFits (Suspect a b) = Unit
 -- so has 0
 pub zero_fits : (a : ℕ) → ValueFits (Start a 0)
 unfolding ValueFits portions_of diet_of
-zero_fits a = (lit< tt, fits_mk 0 0 (omega arith))
+zero_fits a = (lit< tt, fits_mk _ (omega arith))
 
 -- the digits of v, each quotient taken from the one before
 four : (v a b c : ℕ) → a ≡ v / 256 → b ≡ a / 256 → c ≡ b / 256 → v < 4294967296
@@ -347,15 +350,15 @@ pair_mk n a b p =
 read_bytes : (n t kind a b x r v : ℕ) → b - 1 ≡ x → v < 4294967296 → one_to 6 kind ≡ true → a < n
     → select (uses_b kind) (one_to n b and not (same (a + 1) b)) (same b 0) ≡ true
     → select (same kind 3) (less r (t + 2)) (same r 0) ≡ true → (same kind 1 or same v 0) ≡ true
-    → read_of n t (bytes_of kind (a + 1) b r v) ≡ Got (event_of kind a x r v)
+    → read_of n t (bytes_of kind (a + 1) b r v) ≡ Ok (event_of kind a x r v)
 unfolding bytes_of value_of fields
 read_bytes n t kind a b x r v e h k l p q w =
     read_parts n t (bytes_of kind (a + 1) b r v) refl ∙ ap (parts_of n t kind (a + 1) b r) (word_digits v h)
     ∙ parts_got n t kind (a + 1) b r v k (and_mk _ _ (process_mk n a l) (and_mk _ _ p (and_mk _ _ q w)))
-    ∙ ap₂ (λ y z. Got (event_of kind y z r v)) (omega arith) e
+    ∙ ap₂ (λ y z. Ok (event_of kind y z r v)) (omega arith) e
 
 -- every event in range is read from its bytes
-read_encode : (n t : ℕ) (e : Event) → InRange n t e → ValueFits e → read_of n t (encode_of e) ≡ Got e
+read_encode : (n t : ℕ) (e : Event) → InRange n t e → ValueFits e → read_of n t (encode_of e) ≡ Ok e
 unfolding InRange ValueFits encode_of uses_b event_of message_from MessageIn same
     less select ◌or◌
 read_encode n t (Start a v) h f =
@@ -367,7 +370,7 @@ read_encode n t (Arrive a b (Estimate r)) h f =
     read_bytes n t 3 a (b + 1) b r 0 (omega arith) (lit< tt) (one_mk 6 3 (omega arith) (omega arith)) h.0.first
     (pair_mk n a b h.0)
     (less_mk r (t + 2) (omega (arith, h.1.1))) refl
-    ∙ ap (λ m. Got (Arrive a b m))
+    ∙ ap (λ m. Ok (Arrive a b m))
     (select_off (same r 0) Decision (Estimate r) (same_off r 0 (λ e. omega (arith, h.1.0))))
 read_encode n t (Arrive a b Decision) h f =
     read_bytes n t 3 a (b + 1) b 0 0 (omega arith) (lit< tt) (one_mk 6 3 (omega arith) (omega arith)) h.0.first
@@ -391,7 +394,7 @@ value_start (Crash a) f = refl
 value_start (Suspect a b) f = refl
 
 -- and decoded from them
-pub decode_back : (n t : ℕ) (e : Event) → InRange n t e → ValueFits e → decode_of n t (encode_of e) ≡ Got e
+pub decode_back : (n t : ℕ) (e : Event) → InRange n t e → ValueFits e → decode_of n t (encode_of e) ≡ Ok e
 unfolding decode_of
 decode_back n t e h f = ap check_diet (read_encode n t e h f) ∙ diet_fit e (value_start e f)
 

@@ -2,7 +2,7 @@
 -- above 65,535 a record is the same rewritten, since the last two bytes are 0 already, and is not refused by 15. Any
 -- other is a start, and both refuse it by the same number, if at all: no check looks at its value. So where all starts
 -- that the old rules accept are plain, those of now accept the same events. A run by induction on its budget.
-use Rattle.std.specs.Prelude.{◌≡◌, refl, List, [], ◌∷◌, ◌++◌, Bool, true, false, not, ◌≢◌, ℕ, zero, suc, ◌-◌, ◌*◌, ◌/◌, ◌≤◌, ◌<◌, get_or, length, take, drop}
+use Rattle.std.specs.Prelude.{◌≡◌, refl, List, [], ◌∷◌, ◌++◌, Bool, true, false, not, ◌≢◌, ℕ, zero, suc, ◌-◌, ◌*◌, ◌/◌, ◌≤◌, ◌<◌, get_or, length, take, drop, Result, Ok, Err}
 use Rattle.std.proofs.Common.{sym, ap, ap₂, ◌∙◌, ⊎_elim, arith, length-take, length-drop, length-append, take-append-drop, drop_of_length-le, drop-cons}
 use Rattle.std.proofs.Math.Seq.{take-append_seam, drop-append_seam}
 use Rattle.sets.specs.Lists.{every_in}
@@ -10,13 +10,13 @@ use Rattle.sets.specs.Truth.{◌and◌, ◌or◌, same, less, one_to, select, ch
 use Rattle.sets.specs.TruthLaws.{Is, on, off, is, select_on, select_off, and_first, and_second, and_mk, and_off_l}
 use Rattle.sets.specs.TruthLaws.{same_on, same_mk, same_off, less_on, less_mk, le-or, eq-or}
 use Rattle.global_data.specs.WordLaws.{plain_word, fits_mk}
+use Rattle.refusal.specs.declared.Refusal.{Refusal}
+use Rattle.refusal.specs.declared.Refusal.TheVariants.{Kind, Field}
 use Rattle.bench.specs.declared.Bench.{Bench}
 use Rattle.bench.specs.declared.Message.{Message}
 use Rattle.bench.specs.declared.Counters.{Counters}
 use Rattle.bench.specs.declared.Event.{Event}
 use Rattle.bench.specs.declared.Event.TheVariants.{Start, Send, Arrive, Close, Crash, Suspect}
-use Rattle.bench.specs.declared.Decoded.{Decoded}
-use Rattle.bench.specs.declared.Decoded.TheVariants.{Got, Refused}
 use Rattle.bench.specs.Record.{word_of, uses_b, is_kind, fields, event_of, parts_of, value_of, read_of}
 use Rattle.bench.specs.Record.{start_fits, check_diet, decode_of, Form, v1, v2, decode_as}
 use Rattle.bench.specs.Sound.{sound_of}
@@ -72,7 +72,7 @@ others_plain a b m false false true u = refl
 others_plain a b m false false false true = refl
 others_plain a b m false false false false = refl
 
-pub plain_read : (n t : ℕ) (l : List ℕ) (e : Event) → plain_record l ≡ true → read_of n t l ≡ Got e → plain_start e ≡ true
+pub plain_read : (n t : ℕ) (l : List ℕ) (e : Event) → plain_record l ≡ true → read_of n t l ≡ Ok e → plain_start e ≡ true
 unfolding plain_record is_kind event_of plain_start
 plain_read n t l e p q = rw F.event (go (is (same (get_or l 0 0) 1)))
   where
@@ -88,7 +88,7 @@ plain_fits : (e : Event) → plain_start e ≡ true → start_fits e ≡ true
 unfolding plain_start start_fits
 plain_fits (Start a v) p =
     let w = plain_word v (less_on v 65536 p) in
-    fits_mk _ _ (omega (arith, w.1))
+    fits_mk _ (omega (arith, w.1))
 plain_fits (Send a b) p = refl
 plain_fits (Arrive a b m) p = refl
 plain_fits (Close a) p = refl
@@ -99,9 +99,9 @@ pub plain_decodes : (n t : ℕ) (l : List ℕ) → plain_record l ≡ true → r
 unfolding decode_of
 plain_decodes n t l p = go (read_of n t l) refl
   where
-    go : (d : Decoded) → read_of n t l ≡ d → d ≡ check_diet d
-    go (Got e) q = sym (diet_fit e (plain_fits e (plain_read n t l e p q)))
-    go (Refused r) q = sym (diet_refused r)
+    go : (d : Result Event Refusal) → read_of n t l ≡ d → d ≡ check_diet d
+    go (Ok e) q = sym (diet_fit e (plain_fits e (plain_read n t l e p q)))
+    go (Err r) q = sym (diet_refused r)
 
 -- ---- so the rules are the same for them
 pub plain_alike : (f : Form) (n t : ℕ) (l : List ℕ) → plain_record l ≡ true → decode_as f n t l ≡ decode_as v2 n t l
@@ -212,12 +212,12 @@ value_unseen n t a b r v w s =
   where
     go : (x y : Bool)
         → refuses_decoded
-        (select x (select y (Got (Start (a - 1) v)) (Refused (record { number = 5 })))
-        (Refused (record { number = 4 })))
+        (select x (select y (Ok (Start (a - 1) v)) (Err Field))
+        (Err Kind))
         s
         ≡ refuses_decoded
-        (select x (select y (Got (Start (a - 1) w)) (Refused (record { number = 5 })))
-        (Refused (record { number = 4 })))
+        (select x (select y (Ok (Start (a - 1) w)) (Err Field))
+        (Err Kind))
         s
     go true true = refl
     go true false = refl
@@ -253,7 +253,7 @@ rewritten-refuses s l b = go (is (is_kind 1 l))
         (plain_decodes s.n s.t l p ∙ ap (decode_of s.n s.t) (sym (rewritten_record_lem l p)))
 
 -- ---- what the old form accepts of it, where that is no start above 65,535, the new one accepts of it rewritten
-plain_back : (n t : ℕ) (l : List ℕ) (e : Event) → read_of n t l ≡ Got e → plain_start e ≡ true → plain_record l ≡ true
+plain_back : (n t : ℕ) (l : List ℕ) (e : Event) → read_of n t l ≡ Ok e → plain_start e ≡ true → plain_record l ≡ true
 unfolding plain_record is_kind event_of plain_start
 plain_back n t l e q p = go (is (is_kind 1 l))
   where

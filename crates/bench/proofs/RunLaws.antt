@@ -1,7 +1,7 @@
 -- Laws of run: the four turns of document 01's loop, that a run is that loop (`run_loop`) and that it is the fold of
 -- single records: the bench after exactly the accepted ones, one by one.
 -- By the budget: each turn takes one accepted record, which is 8 bytes, or gives the cause.
-use Rattle.std.specs.Prelude.{◌≡◌, ◌≢◌, true, false}
+use Rattle.std.specs.Prelude.{◌≡◌, ◌≢◌, true, false, Option, None}
 use Rattle.std.proofs.Math.Path.{refl, sym, ap}
 use Rattle.std.proofs.Common.{◌∙◌, add-zero, length-take, length-drop, drop-drop}
 use Rattle.std.proofs.Math.Logic.{⊎_elim}
@@ -13,7 +13,8 @@ use Rattle.std.proofs.Math.ListN.{length, take, drop}
 use Rattle.sets.specs.Truth.{same, select}
 use Rattle.sets.specs.TruthLaws.{Is, on, off, is, select_on, select_off, same_mk, same_off, eq-or, check_off}
 use Rattle.process.specs.declared.Closing.{Closing}
-use Rattle.process.specs.declared.Closing.TheVariants.{None}
+use Rattle.refusal.specs.Numbers.{refusal_number, refused}
+use Rattle.refusal.proofs.NumberLaws.{refused_number, number_refused}
 use Rattle.bench.specs.declared.Bench.{Bench}
 use Rattle.bench.specs.declared.Cause.{Cause}
 use Rattle.bench.specs.declared.Cause.TheVariants.{Empty, Spent, Refused}
@@ -28,16 +29,16 @@ use Rattle.bench.specs.Closings.{closing_at, last_of}
 use Rattle.bench.specs.RunLoop.{ends_by, closing_in}
 use Rattle.bench.specs.LastLaws.{last_none, none_last, last_last}
 use Rattle.bench.proofs.OldRulesLaws.{taken, untaken}
-use Rattle.bench.specs.Calls.{refused, answer_of, event_in, accepted_one, after_events, closing_from, accepted_in}
+use Rattle.bench.specs.Calls.{answer_of, event_in, accepted_one, after_events, closing_from, accepted_in}
 use Rattle.bench.specs.Calls.{step_of}
 use Rattle.bench.specs.Calls.{cause_of, run_by, run_of, after_record}
 use Rattle.bench.specs.RunLoop.{after_by, ended_of, run_from}
 use Rattle.bench.specs.OneByOne.{rest_at, record_at, steps}
-use Rattle.bench.proofs.RefuseLaws.{accepted_effect, accepted}
+use Rattle.bench.proofs.RefuseLaws.{refusal_high, accepted_effect, accepted}
 use Rattle.bench.proofs.SoundLaws.{sound_step}
 
 -- ---- the turns of the loop, at any budget, bytes, bench, numbers and closing so far
-module _ (l : List ℕ) (s : Bench) (accepted : ℕ) (c : Closing) (taken : ℕ) where
+module _ (l : List ℕ) (s : Bench) (accepted : ℕ) (c : Option Closing) (taken : ℕ) where
   pub run_empty : (budget : ℕ) → length l ≡ 0
       → run_from v2 budget l s accepted c taken ≡ ended_of s accepted Empty c taken
   unfolding run_from refusal effect_of closing_in
@@ -124,14 +125,14 @@ unfolding step_of refusal closing_in after_record
 step_is s l = rw (one_closing v2 s l)
 
 -- ---- and a run is its loop: what comes of accepting the events h, with what was accepted, closed and taken before
-abbrev comes_to : Form → ℕ → List ℕ → Bench → ℕ → Closing → ℕ → List Event → Ended
+abbrev comes_to : Form → ℕ → List ℕ → Bench → ℕ → Option Closing → ℕ → List Event → Ended
 comes_to f budget l s a c k h =
     ended_of (after_events s h) (a + length h)
     (cause_of f (budget - length h) (drop (8 * length h) l) (after_events s h)) (last_of c (closing_from s h))
     (k + 8 * length h)
 
 module _ (f : Form) where
-  at_once : (budget : ℕ) (l : List ℕ) (s : Bench) (a : ℕ) (c : Closing) (k : ℕ)
+  at_once : (budget : ℕ) (l : List ℕ) (s : Bench) (a : ℕ) (c : Option Closing) (k : ℕ)
       → comes_to f budget l s a c k [] ≡ ended_of s a (cause_of f budget l s) c k
   unfolding after_events closing_from
   at_once budget l s a c k =
@@ -140,7 +141,7 @@ module _ (f : Form) where
       let r : k + 0 ≡ k = omega arith in
       rw (p, q, r, last_none c)
 
-  further : (budget : ℕ) (l : List ℕ) (s : Bench) (a : ℕ) (c : Closing) (k : ℕ) (e : Event) (h : List Event)
+  further : (budget : ℕ) (l : List ℕ) (s : Bench) (a : ℕ) (c : Option Closing) (k : ℕ) (e : Event) (h : List Event)
       → comes_to f (suc budget) l s a c k (e ∷ h)
       ≡ comes_to f budget (drop 8 l) (effect e s) (a + 1) (last_of c (closing_at e s)) (k + 8) h
   unfolding after_events closing_from
@@ -177,8 +178,8 @@ module _ (f : Form) where
   no_bytes : (l : List ℕ) (s : Bench) → length l ≡ 0 → refusal_by f s (take 8 l) ≢ 0
   no_bytes l s e z = omega (arith, (taken f s (take 8 l) z).size, length-take 8 l)
 
-  turn : (budget : ℕ) (l : List ℕ) (s : Bench) (a : ℕ) (c : Closing) (k : ℕ) → sound_of s ≡ true
-      → ((s' : Bench) (c' : Closing) → sound_of s' ≡ true
+  turn : (budget : ℕ) (l : List ℕ) (s : Bench) (a : ℕ) (c : Option Closing) (k : ℕ) → sound_of s ≡ true
+      → ((s' : Bench) (c' : Option Closing) → sound_of s' ≡ true
       → run_from f budget (drop 8 l) s' (a + 1) c' (k + 8)
       ≡ comes_to f budget (drop 8 l) s' (a + 1) c' (k + 8) (accepted_in f budget (drop 8 l) s'))
       → run_from f (suc budget) l s a c k ≡ comes_to f (suc budget) l s a c k (accepted_in f (suc budget) l s)
@@ -228,7 +229,7 @@ module _ (f : Form) where
               select_off _ _ _ (same_off _ 0 w)
               ∙ stopped _ (sym (cause_refused (suc budget) l s o h (omega arith))) w
 
-  loop_is : (budget : ℕ) (l : List ℕ) (s : Bench) (a : ℕ) (c : Closing) (k : ℕ) → sound_of s ≡ true
+  loop_is : (budget : ℕ) (l : List ℕ) (s : Bench) (a : ℕ) (c : Option Closing) (k : ℕ) → sound_of s ≡ true
       → run_from f budget l s a c k ≡ comes_to f budget l s a c k (accepted_in f budget l s)
   unfolding run_from accepted_in
   loop_is zero l s a c k o =
@@ -279,7 +280,7 @@ run_sound budget l s h = loop_sound v2 budget l s h
 unfoldable pub Why : ℕ → List ℕ → Bench → Cause → Type 0
 Why left rest s Empty = length rest ≡ 0
 Why left rest s Spent = (length rest ≢ 0) × (left ≡ 0)
-Why left rest s (Refused r) = (length rest ≢ 0) × (left ≢ 0) × (refusal s (take 8 rest) ≡ r.number) × (r.number ≢ 0)
+Why left rest s (Refused r) = (length rest ≢ 0) × (left ≢ 0) × (refusal s (take 8 rest) ≡ refusal_number r) × (refusal_number r ≢ 0)
 
 -- the cause is the one that the three tests give in their order
 unfoldable pub cause_at : ℕ → List ℕ → Bench → Cause
@@ -291,7 +292,7 @@ unfolding Why cause_at
 why_is left rest s Empty w = sym (select_on _ _ _ (same_mk _ _ w))
 why_is left rest s Spent w = sym (select_off _ _ _ (same_off _ _ w.0) ∙ select_on _ _ _ (same_mk _ _ w.1))
 why_is left rest s (Refused r) w =
-    ap (λ k. Refused (refused k)) (sym w.2)
+    ap Refused (sym (refused_number r)) ∙ ap (λ k. Refused (refused k)) (sym w.2)
     ∙ sym (select_off _ _ _ (same_off _ _ w.0) ∙ select_off _ _ _ (same_off _ _ w.1))
 
 pub rest_next : (k : ℕ) (l : List ℕ) → rest_at k (drop 8 l) ≡ rest_at (suc k) l
@@ -299,13 +300,13 @@ unfolding rest_at
 rest_next k l = dropped k l
 
 -- the closing after the first k records, with c before them
-unfoldable pub closing_to : ℕ → Bench → List ℕ → Closing → Closing
+unfoldable pub closing_to : ℕ → Bench → List ℕ → Option Closing → Option Closing
 closing_to zero s l c = c
 closing_to (suc k) s l c =
     closing_to k (after_record s (take 8 l)) (drop 8 l) (last_of c (closing_in s (take 8 l)))
 
 -- run gives what k records give one by one, all of them accepted, with the cause of the place where it stopped
-pub record Runs (budget : ℕ) (l : List ℕ) (s : Bench) (accepted : ℕ) (c : Closing) (taken : ℕ) : Type 0 where
+pub record Runs (budget : ℕ) (l : List ℕ) (s : Bench) (accepted : ℕ) (c : Option Closing) (taken : ℕ) : Type 0 where
   pub k : ℕ
   pub cause : Cause
   pub gives : run_from v2 budget l s accepted c taken
@@ -316,7 +317,7 @@ pub record Runs (budget : ℕ) (l : List ℕ) (s : Bench) (accepted : ℕ) (c : 
   pub why : Why (budget - k) (rest_at k l) (steps k s l) cause
 
 -- it stops at once, with a cause
-stops : (budget : ℕ) (l : List ℕ) (s : Bench) (a : ℕ) (c : Closing) (t : ℕ) (x : Cause)
+stops : (budget : ℕ) (l : List ℕ) (s : Bench) (a : ℕ) (c : Option Closing) (t : ℕ) (x : Cause)
     → run_from v2 budget l s a c t ≡ ended_of s a x c t
     → Why budget l s x
     → Runs budget l s a c t
@@ -333,7 +334,7 @@ stops budget l s a c t x e w =
     }
 
 -- it takes one record more
-goes : (budget : ℕ) (l : List ℕ) (s : Bench) (a : ℕ) (c : Closing) (t : ℕ) → length l ≢ 0 → refusal s (take 8 l) ≡ 0
+goes : (budget : ℕ) (l : List ℕ) (s : Bench) (a : ℕ) (c : Option Closing) (t : ℕ) → length l ≢ 0 → refusal s (take 8 l) ≡ 0
     → Runs budget (drop 8 l) (after_record s (take 8 l)) (a + 1) (last_of c (closing_in s (take 8 l))) (t + 8)
     → Runs (suc budget) l s a c t
 unfolding steps record_at rest_at closing_to
@@ -359,7 +360,11 @@ goes budget l s a c t h z w =
     each zero b = z
     each (suc i) b = rw (← rest_next i l) (w.each_accepted i (omega arith))
 
-pub runs : (budget : ℕ) (l : List ℕ) (s : Bench) (accepted : ℕ) (c : Closing) (taken : ℕ)
+-- a refusal is the one with its number
+number_of_refused : (s : Bench) (l : List ℕ) → refusal s l ≢ 0 → refusal_number (refused (refusal s l)) ≡ refusal s l
+number_of_refused s l r = number_refused (refusal s l) (omega (arith, r)) (refusal_high s l)
+
+pub runs : (budget : ℕ) (l : List ℕ) (s : Bench) (accepted : ℕ) (c : Option Closing) (taken : ℕ)
     → Runs budget l s accepted c taken
 unfolding Why
 runs zero l s a c t =
@@ -371,7 +376,12 @@ runs (suc budget) l s a c t =
     ⊎_elim (λ z. goes budget l s a c t h z
     (runs budget (drop 8 l) (after_record s (take 8 l)) (a + 1) (last_of c (closing_in s (take 8 l))) (t + 8)))
     (λ r. stops (suc budget) l s a c t (Refused (refused (refusal s (take 8 l))))
-    (run-refused l s a c t (suc budget) h (omega arith) r) (h, omega arith, refl, r))
+    (run-refused l s a c t (suc budget) h (omega arith) r) (
+      h,
+      omega arith,
+      sym (number_of_refused s (take 8 l) r),
+      λ z. r (sym (number_of_refused s (take 8 l) r) ∙ z),
+    ))
     (eq-or (refusal s (take 8 l)) 0)) (eq-or (length l) 0)
 
 -- a run of a sound bench leaves it sound

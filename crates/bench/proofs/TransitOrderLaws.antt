@@ -1,7 +1,7 @@
 -- The list in transit is what request C-13 says: strictly rising by round, sender and receiver, and naming just the
 -- messages in transit. By `lists_joined`, for the receivers, the senders and the rounds. What follows: there is one
 -- such list alone, so the same messages are shown as the same bytes, and where two lists differ, a message does.
-use Rattle.std.specs.Prelude.{◌≡◌, ◌↔◌, ◌⊎◌, true, ℕ, ◌+◌, ◌-◌, ◌/◌, ◌≤◌, ◌<◌, length}
+use Rattle.std.specs.Prelude.{◌≡◌, ◌↔◌, ◌⊎◌, true, ℕ, ◌+◌, ◌-◌, ◌/◌, ◌≤◌, ◌<◌, length, Ok}
 use Rattle.std.proofs.Math.Path.{refl, subst}
 use Rattle.std.proofs.Common.{sym, ap, ◌∙◌}
 use mathlib.Core.List.{List, Nodup, Memᴰ as In}
@@ -13,7 +13,6 @@ use Rattle.sets.specs.TruthLaws.{one_low, one_high, one_mk}
 use Rattle.bench.specs.declared.Bench.{Bench}
 use Rattle.bench.specs.declared.Message.{Message}
 use Rattle.bench.specs.declared.Event.TheVariants.{Arrive}
-use Rattle.bench.specs.declared.Listed.TheVariants.{Count}
 use Rattle.bench.specs.State.{transit_at}
 use Rattle.bench.specs.Sound.{sound_of}
 use Rattle.bench.specs.Refuse.{number_of, passes7}
@@ -117,12 +116,12 @@ module _ (s : Bench) where
   transit_once = Pairwise-Nodup before_never transit_lists.rising
 
   -- the number that the call answers is how many they are
-  pub transit_count : (out : List ℕ) → list_refusal s out ≡ 0 → list_of s out ≡ Count (length transit_lists.messages)
+  pub transit_count : (out : List ℕ) → list_refusal s out ≡ 0 → list_of s out ≡ Ok (length transit_lists.messages)
   transit_count out e =
       let w = transit_lists in
       let h : length (transit_bytes s) / 3 ≡ length w.messages =
       omega (arith, ap length w.spelt ∙ bytes_length w.messages) in
-      (list_listed s out e).0 ∙ ap Count h
+      (list_listed s out e).0 ∙ ap Ok h
 
   -- what is listed is what can arrive: just those pass check 7
   pub transit_arrives : (a b : ℕ) (m : Message) → a < s.n → b < s.n → number_of m ≤ s.t + 1

@@ -1,17 +1,16 @@
 -- What the calls for a process's global data and for the list in transit answer and write,
 -- by the first check that fails.
-use Rattle.std.specs.Prelude.{◌≡◌, List, ◌++◌, true, false, not, ℕ, suc, ◌-◌, ◌/◌, ◌≤◌, ◌<◌, length, drop}
+use Rattle.std.specs.Prelude.{◌≡◌, List, ◌++◌, true, false, not, ℕ, suc, ◌-◌, ◌/◌, ◌≤◌, ◌<◌, length, drop, Ok, Err}
 use Rattle.std.proofs.Common.{ap, ◌∙◌, arith}
 use Rattle.sets.specs.Lists.{each}
 use Rattle.sets.specs.Truth.{same, less, select, one_to, check}
 use Rattle.sets.specs.TruthLaws.{select_on, select_off, same_mk, same_off, less_mk, less_off, check_on, check_off}
+use Rattle.refusal.specs.Numbers.{refused}
 use Rattle.process.specs.Steps.{has_decided}
 use Rattle.bench.specs.declared.Bench.{Bench}
-use Rattle.bench.specs.declared.Shown.TheVariants.{Marks, Refused as RefusedShow}
-use Rattle.bench.specs.declared.Listed.TheVariants.{Count, Refused as RefusedList}
 use Rattle.bench.specs.Sound.{sound_of}
 use Rattle.bench.specs.State.{process_at}
-use Rattle.bench.specs.Calls.{refused, word_at, show_refusal, show_of, shown_in}
+use Rattle.bench.specs.Calls.{word_at, show_refusal, show_of, shown_in}
 use Rattle.bench.specs.TransitList.{transit_bytes, list_refusal, list_of, listed_in}
 
 -- a slice of length x is long enough for y, or too short
@@ -57,15 +56,15 @@ module _ (s : Bench) (x : ℕ) (out : List ℕ) where
         show_decided d = decision ∙ check_on _ _ _ d
 
   pub show_refused : (k : ℕ) → show_refusal s x out ≡ suc k
-      → (show_of s x out ≡ RefusedShow (refused (suc k))) × (shown_in s x out ≡ out)
+      → (show_of s x out ≡ Err (refused (suc k))) × (shown_in s x out ≡ out)
   unfolding show_of shown_in
-  show_refused k e = (by_number _ _ (λ r. RefusedShow (refused r)) k e, by_number _ _ (λ r. out) k e)
+  show_refused k e = (by_number _ _ (λ r. Err (refused r)) k e, by_number _ _ (λ r. out) k e)
 
   pub show_shown : show_refusal s x out ≡ 0
-      → (show_of s x out ≡ Marks (process_at s (x - 1)).estimate.present)
+      → (show_of s x out ≡ Ok (process_at s (x - 1)).estimate.present)
       × (shown_in s x out ≡ each s.n (word_at (process_at s (x - 1)).estimate) ++ drop s.n out)
   unfolding show_of shown_in
-  show_shown e = (by_none _ _ (λ r. RefusedShow (refused r)) e, by_none _ _ (λ r. out) e)
+  show_shown e = (by_none _ _ (λ r. Err (refused r)) e, by_none _ _ (λ r. out) e)
 
 -- ---- the list in transit
 module _ (s : Bench) (out : List ℕ) where
@@ -83,12 +82,12 @@ module _ (s : Bench) (out : List ℕ) where
     list_fits h = check_on _ _ _ e ∙ check_on _ _ _ (long (length out) (length (transit_bytes s)) h)
 
   pub list_refused : (k : ℕ) → list_refusal s out ≡ suc k
-      → (list_of s out ≡ RefusedList (refused (suc k))) × (listed_in s out ≡ out)
+      → (list_of s out ≡ Err (refused (suc k))) × (listed_in s out ≡ out)
   unfolding list_of listed_in
-  list_refused k e = (by_number _ _ (λ r. RefusedList (refused r)) k e, by_number _ _ (λ r. out) k e)
+  list_refused k e = (by_number _ _ (λ r. Err (refused r)) k e, by_number _ _ (λ r. out) k e)
 
   pub list_listed : list_refusal s out ≡ 0
-      → (list_of s out ≡ Count (length (transit_bytes s) / 3))
+      → (list_of s out ≡ Ok (length (transit_bytes s) / 3))
       × (listed_in s out ≡ transit_bytes s ++ drop (length (transit_bytes s)) out)
   unfolding list_of listed_in
-  list_listed e = (by_none _ _ (λ r. RefusedList (refused r)) e, by_none _ _ (λ r. out) e)
+  list_listed e = (by_none _ _ (λ r. Err (refused r)) e, by_none _ _ (λ r. out) e)

@@ -1,28 +1,22 @@
 -- The calls (document 01, "The other calls"): open, one record with the tally, run, global data of a process.
 -- The list in transit: TransitList. Carrying: Carry.
-use Rattle.std.specs.Prelude.{List, [], ◌∷◌, ◌++◌, Bool, false, not, ℕ, zero, suc, ◌+◌, ◌-◌, ◌*◌, get_or, length, take, drop}
+use Rattle.std.specs.Prelude.{List, [], ◌∷◌, ◌++◌, Bool, false, not, ℕ, zero, suc, ◌+◌, ◌-◌, ◌*◌, get_or, length, take, drop, ⊤, Option, None, Result, Ok, Err}
 use Rattle.sets.specs.Lists.{each}
 use Rattle.sets.specs.Set.{has}
 use Rattle.sets.specs.Truth.{◌and◌, same, less, select, one_to, check}
 use Rattle.global_data.specs.declared.GlobalData.{GlobalData}
 use Rattle.process.specs.declared.Closing.{Closing}
-use Rattle.process.specs.declared.Closing.TheVariants.{None}
+use Rattle.refusal.specs.declared.Refusal.{Refusal}
+use Rattle.refusal.specs.declared.Refusal.TheVariants.{Size, Damaged}
+use Rattle.refusal.specs.Numbers.{refused}
 use Rattle.process.specs.Steps.{has_decided}
 use Rattle.bench.specs.declared.Bench.{Bench}
-use Rattle.bench.specs.declared.Refusal.{Refusal}
-use Rattle.bench.specs.declared.Answer.{Answer}
-use Rattle.bench.specs.declared.Answer.TheVariants.{Accepted, Refused}
 use Rattle.bench.specs.declared.Cause.{Cause}
-use Rattle.bench.specs.declared.Cause.TheVariants.{Empty, Spent, Refused as RefusedRun}
-use Rattle.bench.specs.declared.Shown.{Shown}
-use Rattle.bench.specs.declared.Shown.TheVariants.{Marks, Refused as RefusedShow}
-use Rattle.bench.specs.declared.Opened.{Opened}
+use Rattle.bench.specs.declared.Cause.TheVariants.{Empty, Spent, Refused}
 use Rattle.bench.specs.declared.Stepped.{Stepped}
 use Rattle.bench.specs.declared.Counters.{Counters}
 use Rattle.bench.specs.declared.Ended.{Ended}
 use Rattle.bench.specs.declared.Event.{Event}
-use Rattle.bench.specs.declared.Decoded.{Decoded}
-use Rattle.bench.specs.declared.Decoded.TheVariants.{Got, Refused as RefusedDecoded}
 use Rattle.bench.specs.State.{process_at, opened_of}
 use Rattle.bench.specs.Sound.{opens, sound_of}
 use Rattle.bench.specs.Record.{Form, v2, decode_as}
@@ -30,24 +24,18 @@ use Rattle.bench.specs.Refuse.{is_crash, refusal_by}
 use Rattle.bench.specs.Effect.{effect}
 use Rattle.bench.specs.Closings.{closing_at, last_of}
 
--- a refusal with its number
-abbrev pub refused : ℕ → Refusal
-refused k = record { number = k }
-
 -- the answer with a number: 0 is accepted
-unfoldable pub answer_of : ℕ → Answer
-answer_of k = select (same k 0) Accepted (Refused (refused k))
+unfoldable pub answer_of : ℕ → Result ⊤ Refusal
+answer_of k = select (same k 0) (Ok tt) (Err (refused k))
 
--- ---- open: refusal 1 and the all-zero bench, or the opened bench
-unfoldable pub open_of : ℕ → ℕ → Opened
-open_of n t =
-    select (opens n t) (record { answer = Accepted; bench = opened_of n t })
-    (record { answer = Refused (refused 1); bench = opened_of 0 0 })
+-- ---- open: the opened bench, or refusal 1
+unfoldable pub open_of : ℕ → ℕ → Result Bench Refusal
+open_of n t = select (opens n t) (Ok (opened_of n t)) (Err Size)
 
 -- ---- what is accepted, as events: of one record the event that it is decoded to, or nothing
-unfoldable pub event_in : Decoded → List Event
-event_in (Got e) = e ∷ []
-event_in (RefusedDecoded r) = []
+unfoldable pub event_in : Result Event Refusal → List Event
+event_in (Ok e) = e ∷ []
+event_in (Err r) = []
 
 unfoldable pub accepted_one : Form → Bench → List ℕ → List Event
 accepted_one f s bytes = select (same (refusal_by f s bytes) 0) (event_in (decode_as f s.n s.t bytes)) []
@@ -58,7 +46,7 @@ after_events s [] = s
 after_events s (e ∷ h) = after_events (effect e s) h
 
 -- how the last close among them ended; none where there is none
-unfoldable pub closing_from : Bench → List Event → Closing
+unfoldable pub closing_from : Bench → List Event → Option Closing
 closing_from s [] = None
 closing_from s (e ∷ h) = last_of (closing_at e s) (closing_from (effect e s) h)
 
@@ -97,9 +85,9 @@ tallied ok crash c =
     }
 
 -- what some bytes are decoded to is a crash
-unfoldable pub crash_decoded : Decoded → Bool
-crash_decoded (Got e) = is_crash e
-crash_decoded (RefusedDecoded r) = false
+unfoldable pub crash_decoded : Result Event Refusal → Bool
+crash_decoded (Ok e) = is_crash e
+crash_decoded (Err r) = false
 
 abbrev pub tally_by : Form → Bench → List ℕ → Counters → Counters
 tally_by f s bytes c = tallied (same (refusal_by f s bytes) 0) (crash_decoded (decode_as f s.n s.t bytes)) c
@@ -111,9 +99,9 @@ tally_of s bytes c = tally_by v2 s bytes c
 -- schedule is empty, the budget spent or a record refused, tested in that order
 unfoldable pub cause_of : Form → ℕ → List ℕ → Bench → Cause
 cause_of f left rest s =
-    select (not (sound_of s)) (RefusedRun (refused 2))
+    select (not (sound_of s)) (Refused Damaged)
     (select (same (length rest) 0) Empty
-    (select (same left 0) Spent (RefusedRun (refused (refusal_by f s (take 8 rest))))))
+    (select (same left 0) Spent (Refused (refused (refusal_by f s (take 8 rest))))))
 
 -- all that it gives is read off the events that it accepts, each of which was a record of 8 bytes. That this is what
 -- document 01's loop does turn by turn is the law `run_loop` (RunLaws)
@@ -145,10 +133,10 @@ show_refusal s x out =
     (check (one_to s.n x) 5
     (check (not (less (length out) s.n)) 10 (check (has_decided (process_at s (x - 1))) 11 0)))
 
-unfoldable pub show_of : Bench → ℕ → List ℕ → Shown
+unfoldable pub show_of : Bench → ℕ → List ℕ → Result ℕ Refusal
 show_of s x out =
     let r = show_refusal s x out in
-    select (same r 0) (Marks (process_at s (x - 1)).estimate.present) (RefusedShow (refused r))
+    select (same r 0) (Ok (process_at s (x - 1)).estimate.present) (Err (refused r))
 
 unfoldable pub shown_in : Bench → ℕ → List ℕ → List ℕ
 shown_in s x out =

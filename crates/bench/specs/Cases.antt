@@ -1,13 +1,12 @@
 -- The starred cases 1 to 8 of document 01, starts of the requests and weeks that are carried over, as one table, and
 -- one theorem that the definitions give each of them its answers, how its rounds ended (request C-11) and its end.
-use Rattle.std.specs.Prelude.{◌≡◌, refl, List, [], ◌∷◌, Bool, true, false, ℕ, zero, suc, ◌+◌, ◌*◌, ◌/◌, ◌%◌}
+use Rattle.std.specs.Prelude.{◌≡◌, refl, List, [], ◌∷◌, Bool, true, false, ℕ, zero, suc, ◌+◌, ◌*◌, ◌/◌, ◌%◌, Option, Some, None}
 use Rattle.std.specs.Int.Count.{ones}
 use Rattle.sets.specs.Lists.{each, every, every_in}
 use Rattle.sets.specs.Set.{has, insert_of, remove_of, union_of, intersection_of, difference_of, all_of, size_of, within}
 use Rattle.sets.specs.Truth.{◌and◌, ◌or◌, same, less, select, one_to, check}
-use Rattle.global_data.specs.declared.Entry.{Entry}
-use Rattle.global_data.specs.declared.Entry.TheVariants.{Absent, Value}
-use Rattle.global_data.specs.GlobalData.{portions_of, diet_of, entry_of, same_entry, diet_fits, nothing_of, one_of}
+use Rattle.global_data.specs.GlobalData.{portions_of, diet_of, Entry, entry_with, entry_of, same_entry, diet_fits}
+use Rattle.global_data.specs.GlobalData.{nothing_of, one_of}
 use Rattle.global_data.specs.GlobalData.{filled_word, fill_of, fill_from, same_to, all_same}
 use Rattle.process.specs.Steps.{has_decided, idle_of, takes_part, open_round_of, start_of, keeps, receive_of}
 use Rattle.process.specs.Steps.{arrived_of, due_of, next_of, peers_of, filled_of, agreed_of, closing_of}
@@ -27,7 +26,7 @@ use Rattle.bench.specs.Record.{value_of, read_of, start_fits, check_diet, decode
 use Rattle.bench.specs.Refuse.{number_of, actor, is_crash, passes7, passes8}
 use Rattle.bench.specs.Refuse.{passes9, refuses, refuses_decoded, refusal_by}
 use Rattle.bench.specs.Effect.{opens_round, rows_at, sends, arrives, closes_as, effect}
-use Rattle.bench.specs.Closings.{closing_at, is_none, last_of}
+use Rattle.bench.specs.Closings.{closing_at, last_of}
 use Rattle.bench.specs.Calls.{event_in, accepted_one, after_events, closing_from, step_by, step_of}
 use Rattle.bench.specs.Carry.{plain_data, plain_process, plain_bench, carry_refusal}
 
@@ -95,13 +94,17 @@ answers_of : Form → Bench → List (List ℕ) → List ℕ
 answers_of f s [] = []
 answers_of f s (r ∷ rs) = refusal_by f s r ∷ answers_of f (step_by f s r).bench rs
 
--- the closings that are not none, the first record being number k
+-- the closing of record k, if there is one, before the others
+told : ℕ → Option Closing → List Closes → List Closes
+told k None rest = rest
+told k (Some c) rest = at k c ∷ rest
+
+-- the closings that there are, the first record being number k
 closings_of : ℕ → Bench → List (List ℕ) → List Closes
 closings_of k s [] = []
 closings_of k s (r ∷ rs) =
     let e = step_of s r in
-    let rest = closings_of (suc k) e.bench rs in
-    select (is_none e.closing) rest (at k e.closing ∷ rest)
+    told k e.closing (closings_of (suc k) e.bench rs)
 
 end_of : Form → Bench → List (List ℕ) → Bench
 end_of f s [] = s
@@ -124,7 +127,7 @@ same_closings [] (y ∷ m) = false
 same_closings (x ∷ l) [] = false
 same_closings (x ∷ l) (y ∷ m) =
     same x.record_number y.record_number
-    and (same (closing_number x.closing) (closing_number y.closing) and same_closings l m)
+    and (same (closing_number (Some x.closing)) (closing_number (Some y.closing)) and same_closings l m)
 
 same_entries : ℕ → Process → List Entry → Bool
 same_entries k p [] = true
@@ -176,12 +179,12 @@ case1 =
       answers = 0 ∷ 0 ∷ [];
       closings = at 2 LastRound ∷ [];
       lines =
-          line 1 1 false true 1 (Value 7 0 ∷ []) ∷ [];
+          line 1 1 false true 1 (entry_with 7 0 ∷ []) ∷ [];
     }
 
 -- 2: three processes, no crash, all decide in round 2, each since the estimates agree
 all_three : ℕ → Line
-all_three a = line a 2 false true 7 (Value 5 0 ∷ Value 6 0 ∷ Value 7 0 ∷ [])
+all_three a = line a 2 false true 7 (entry_with 5 0 ∷ entry_with 6 0 ∷ entry_with 7 0 ∷ [])
 
 case2 : Case
 case2 =
@@ -208,7 +211,7 @@ case3 =
       answers = 0 ∷ 0 ∷ [];
       closings = at 2 LastRound ∷ [];
       lines =
-          line 1 1 false true 1 (Value 0 0 ∷ []) ∷ [];
+          line 1 1 false true 1 (entry_with 0 0 ∷ []) ∷ [];
     }
 
 -- 4: the program's input, all twelve answers and both final lines; 6 on top of it: a crash too many
@@ -225,8 +228,8 @@ case4and6 =
       answers = 0 ∷ 0 ∷ 0 ∷ 0 ∷ 0 ∷ 0 ∷ 0 ∷ 0 ∷ 0 ∷ 8 ∷ 0 ∷ 0 ∷ 9 ∷ [];
       closings = at 7 NextRound ∷ at 12 LastRound ∷ [];
       lines =
-          line 1 2 false true 3 (Value 40 0 ∷ Value 25 0 ∷ [])
-          ∷ line 2 1 true false 3 (Absent ∷ Value 25 0 ∷ []) ∷ [];
+          line 1 2 false true 3 (entry_with 40 0 ∷ entry_with 25 0 ∷ [])
+          ∷ line 2 1 true false 3 (None ∷ entry_with 25 0 ∷ []) ∷ [];
     }
 
 -- 5: sizes that open and sizes that do not
@@ -243,7 +246,7 @@ case7 =
       records = start 1 40 ∷ start 2 25 ∷ send 1 2 ∷ send 2 1 ∷ arrive 2 1 1 ∷ crash 2 ∷ suspect 1 2 ∷ close 1 ∷ [];
       answers = 0 ∷ 0 ∷ 0 ∷ 0 ∷ 0 ∷ 0 ∷ 0 ∷ 0 ∷ [];
       closings = at 8 NextRound ∷ [];
-      lines = line 1 2 false false 3 (Value 40 0 ∷ Value 25 0 ∷ []) ∷ [];
+      lines = line 1 2 false false 3 (entry_with 40 0 ∷ entry_with 25 0 ∷ []) ∷ [];
     }
 
 -- 8: equal estimates with previous and next differing, in a round below t + 1: no decision
@@ -256,7 +259,7 @@ case8 =
       records = start 1 5 ∷ crash 2 ∷ suspect 1 2 ∷ send 1 2 ∷ close 1 ∷ [];
       answers = 0 ∷ 0 ∷ 0 ∷ 0 ∷ 0 ∷ [];
       closings = at 5 NextRound ∷ [];
-      lines = line 1 2 false false 1 (Value 5 0 ∷ Absent ∷ []) ∷ [];
+      lines = line 1 2 false false 1 (entry_with 5 0 ∷ None ∷ []) ∷ [];
     }
 
 -- one more: the estimate sent in a round is the one held when it opened, though its sender has since closed that round
@@ -273,8 +276,8 @@ case9 =
       answers = 0 ∷ 0 ∷ 0 ∷ 0 ∷ 0 ∷ 0 ∷ 0 ∷ 0 ∷ 0 ∷ 0 ∷ 0 ∷ 0 ∷ 0 ∷ 0 ∷ 0 ∷ [];
       closings = at 12 NextRound ∷ at 15 NextRound ∷ [];
       lines =
-          line 1 2 false false 7 (Value 5 0 ∷ Value 6 0 ∷ Value 7 0 ∷ [])
-          ∷ line 2 2 false false 3 (Value 5 0 ∷ Value 6 0 ∷ Absent ∷ []) ∷ [];
+          line 1 2 false false 7 (entry_with 5 0 ∷ entry_with 6 0 ∷ entry_with 7 0 ∷ [])
+          ∷ line 2 2 false false 3 (entry_with 5 0 ∷ entry_with 6 0 ∷ None ∷ []) ∷ [];
     }
 
 -- and one: a decision that arrives decides, and is no close
@@ -289,7 +292,7 @@ case10 =
           ∷ [];
       answers = 0 ∷ 0 ∷ 0 ∷ 0 ∷ 0 ∷ 0 ∷ 0 ∷ 0 ∷ 0 ∷ [];
       closings = at 7 LastRound ∷ [];
-      lines = line 2 1 false true 3 (Value 5 0 ∷ Value 6 0 ∷ []) ∷ [];
+      lines = line 2 1 false true 3 (entry_with 5 0 ∷ entry_with 6 0 ∷ []) ∷ [];
     }
 
 -- and C-15's: a start's two numbers at their ends, and 15 between 5 and 6
@@ -302,7 +305,7 @@ values p d =
       records = start_with 1 p d ∷ close 1 ∷ [];
       answers = 0 ∷ 0 ∷ [];
       closings = at 2 LastRound ∷ [];
-      lines = line 1 1 false true 1 (Value p d ∷ []) ∷ [];
+      lines = line 1 1 false true 1 (entry_with p d ∷ []) ∷ [];
     }
 
 -- one more diet portion than portions; then 5 before 15 (no process 3), and 15 before 6 and before 7
@@ -318,7 +321,7 @@ too_much =
           ∷ start_with 1 4 4 ∷ crash 2 ∷ start_with 2 3 4 ∷ start_with 2 4 4 ∷ [];
       answers = 15 ∷ 15 ∷ 15 ∷ 5 ∷ 0 ∷ 15 ∷ 7 ∷ 0 ∷ 15 ∷ 6 ∷ [];
       closings = [];
-      lines = line 1 1 false false 3 (Value 40 3 ∷ Absent ∷ []) ∷ line 2 0 true false 0 (Absent ∷ Absent ∷ []) ∷ [];
+      lines = line 1 1 false false 3 (entry_with 40 3 ∷ None ∷ []) ∷ line 2 0 true false 0 (None ∷ None ∷ []) ∷ [];
     }
 
 -- a bench that no schedule reaches: process 1 has started with 3 portions and 5 diet portions. It passes 2 and is
@@ -339,8 +342,8 @@ held_case =
       answers = 15 ∷ 7 ∷ 0 ∷ 0 ∷ 0 ∷ 0 ∷ 0 ∷ 0 ∷ 0 ∷ 0 ∷ 0 ∷ 0 ∷ 0 ∷ [];
       closings = at 8 NextRound ∷ at 9 NextRound ∷ at 13 LastRound ∷ [];
       lines =
-          line 1 2 false true 3 (Value 3 5 ∷ Value 25 0 ∷ [])
-          ∷ line 2 2 false false 3 (Value 3 5 ∷ Value 25 0 ∷ []) ∷ [];
+          line 1 2 false true 3 (entry_with 3 5 ∷ entry_with 25 0 ∷ [])
+          ∷ line 2 2 false false 3 (entry_with 3 5 ∷ entry_with 25 0 ∷ []) ∷ [];
     }
 
 pub table : List Case
@@ -384,8 +387,8 @@ carried_over =
       new-answers = 0 ∷ 0 ∷ 0 ∷ 0 ∷ 8 ∷ 0 ∷ 0 ∷ [];
       again = 0;
       lines =
-          line 1 2 false true 3 (Value 40 0 ∷ Value 65535 0 ∷ [])
-          ∷ line 2 1 true false 3 (Absent ∷ Value 65535 0 ∷ []) ∷ [];
+          line 1 2 false true 3 (entry_with 40 0 ∷ entry_with 65535 0 ∷ [])
+          ∷ line 2 1 true false 3 (None ∷ entry_with 65535 0 ∷ []) ∷ [];
     }
 
 -- the value 65,536 is refused by 16 where its start was accepted, also once its process has crashed
@@ -416,7 +419,7 @@ unheld =
       new = start_with 1 0 1 ∷ start_with 2 0 1 ∷ start_with 3 25 3 ∷ [];
       new-answers = 15 ∷ 15 ∷ 0 ∷ [];
       again = 16;
-      lines = line 2 1 false false 7 (Absent ∷ Value 5 0 ∷ Absent ∷ []) ∷ [];
+      lines = line 2 1 false false 7 (None ∷ entry_with 5 0 ∷ None ∷ []) ∷ [];
     }
 
 pub weeks : List Week
@@ -434,7 +437,7 @@ states_pass =
 -- every case passes: the checker computes it from the definitions
 pub cases_hold : (every_in passes table and (passes_from held held_case and (every_in week_passes weeks and states_pass)))
     ≡ true
-unfolding bytes start_with start send arrive close crash suspect answers_of closings_of end_of same_bool same_list
+unfolding bytes start_with start send arrive close crash suspect answers_of told closings_of end_of same_bool same_list
     same_closings same_entries one_less same_line passes_from passes
     round3 no_refusal all_three case1 case2 case3 case4and6 sizes case7 case8 case9 case10 values too_much held held_case
     table week_passes carried_over too_large unheld weeks states_pass
@@ -446,6 +449,6 @@ unfolding bytes start_with start send arrive close crash suspect answers_of clos
     sound_data sound_process sound_of
     word_of one_to uses_b fields message_from event_of parts_of value_of read_of
     start_fits check_diet decode_of check number_of actor is_crash passes7 passes8 passes9 refuses refuses_decoded
-    opens_round rows_at sends arrives closes_as effect closing_at is_none last_of decode_as refusal_by
+    opens_round rows_at sends arrives closes_as effect closing_at last_of decode_as refusal_by
     event_in accepted_one after_events closing_from step_of plain_data plain_process plain_bench carry_refusal
 cases_hold = refl

@@ -1,35 +1,25 @@
 -- How rounds ended, one after another.
-use Rattle.std.specs.Prelude.{◌≡◌, refl, true, false}
-use Rattle.sets.specs.Truth.{same, select}
+use Rattle.std.specs.Prelude.{◌≡◌, refl, false, Option, Some, None, is_none}
+use Rattle.sets.specs.Truth.{select}
 use Rattle.sets.specs.TruthLaws.{select_on, select_off}
 use Rattle.process.specs.declared.Closing.{Closing}
-use Rattle.process.specs.declared.Closing.TheVariants.{None, NextRound, Agreed, LastRound}
-use Rattle.process.specs.Steps.{closing_number}
-use Rattle.bench.specs.Closings.{is_none, last_of}
-
-pub none_is : is_none None ≡ true
-unfolding is_none closing_number same
-none_is = refl
+use Rattle.bench.specs.Closings.{last_of}
 
 -- one after another: a later close is the one, and none adds nothing
-pub last_close : (c d : Closing) → is_none d ≡ false → last_of c d ≡ d
+pub last_close : (c d : Option Closing) → is_none d ≡ false → last_of c d ≡ d
 unfolding last_of
 last_close c d e = select_off _ _ _ e
 
-pub last_none : (c : Closing) → last_of c None ≡ c
+pub last_none : (c : Option Closing) → last_of c None ≡ c
 unfolding last_of
-last_none c = select_on _ _ _ none_is
+last_none c = select_on _ _ _ refl
 
-pub none_last : (d : Closing) → last_of None d ≡ d
-unfolding last_of is_none closing_number same select
+pub none_last : (d : Option Closing) → last_of None d ≡ d
+unfolding last_of select
 none_last None = refl
-none_last NextRound = refl
-none_last Agreed = refl
-none_last LastRound = refl
+none_last (Some x) = refl
 
-pub last_last : (c d e : Closing) → last_of (last_of c d) e ≡ last_of c (last_of d e)
-unfolding last_of is_none closing_number same select
+pub last_last : (c d e : Option Closing) → last_of (last_of c d) e ≡ last_of c (last_of d e)
+unfolding last_of select
 last_last c d None = refl
-last_last c d NextRound = refl
-last_last c d Agreed = refl
-last_last c d LastRound = refl
+last_last c d (Some x) = refl

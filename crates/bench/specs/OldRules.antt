@@ -1,7 +1,7 @@
 -- The protocol steps before request C-15, where a value was one number of 32 bits: two entries were the same where
 -- they were absent in both or one number in both. OldRulesLaws shows that the steps of now do the same; of these only
 -- the entries are named in a claim, that of carried ones.
-use Rattle.std.specs.Prelude.{Bool, true, false, ℕ, ◌+◌, get_or}
+use Rattle.std.specs.Prelude.{Bool, true, false, ℕ, ◌+◌, get_or, Option, Some, None}
 use Rattle.sets.specs.Lists.{every}
 use Rattle.sets.specs.Set.{has}
 use Rattle.sets.specs.Truth.{◌and◌, same, select}
@@ -18,18 +18,14 @@ use Rattle.bench.specs.Effect.{rows_at, closes_as, effect}
 use Rattle.bench.specs.Closings.{closing_at}
 
 -- ---- entries: absent, or a value, one number
-pub data OldEntry : Type 0 where
-  absent : OldEntry
-  number : ℕ → OldEntry
+unfoldable pub old_entry_of : GlobalData → ℕ → Option ℕ
+old_entry_of g k = select (has g.present k) (Some (get_or g.values k 0)) None
 
-unfoldable pub old_entry_of : GlobalData → ℕ → OldEntry
-old_entry_of g k = select (has g.present k) (number (get_or g.values k 0)) absent
-
-unfoldable pub old_same_entry : OldEntry → OldEntry → Bool
-old_same_entry absent absent = true
-old_same_entry absent (number w) = false
-old_same_entry (number v) absent = false
-old_same_entry (number v) (number w) = same v w
+unfoldable pub old_same_entry : Option ℕ → Option ℕ → Bool
+old_same_entry None None = true
+old_same_entry None (Some w) = false
+old_same_entry (Some v) None = false
+old_same_entry (Some v) (Some w) = same v w
 
 unfoldable pub old_same_to : ℕ → GlobalData → GlobalData → Bool
 old_same_to n g h = every n (λ k. old_same_entry (old_entry_of g k) (old_entry_of h k))
@@ -59,10 +55,11 @@ old_effect (Close a) s = closes_as s a (old_close_of s.n s.t a (rows_at s (proce
 old_effect (Crash a) s = effect (Crash a) s
 old_effect (Suspect a b) s = effect (Suspect a b) s
 
-unfoldable pub old_closing_at : Event → Bench → Closing
+unfoldable pub old_closing_at : Event → Bench → Option Closing
 old_closing_at (Start a v) s = closing_at (Start a v) s
 old_closing_at (Send a b) s = closing_at (Send a b) s
 old_closing_at (Arrive a b m) s = closing_at (Arrive a b m) s
-old_closing_at (Close a) s = old_closing_of s.n s.t a (rows_at s (process_at s a).round) (process_at s a)
+old_closing_at (Close a) s =
+    Some (old_closing_of s.n s.t a (rows_at s (process_at s a).round) (process_at s a))
 old_closing_at (Crash a) s = closing_at (Crash a) s
 old_closing_at (Suspect a b) s = closing_at (Suspect a b) s

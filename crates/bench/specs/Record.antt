@@ -1,13 +1,13 @@
 -- Records (document 01): 8 bytes, kind, a, b, r, then value, low byte first; and refusals 3, 4, 5 and 15.
-use Rattle.std.specs.Prelude.{List, Bool, true, not, ℕ, ◌+◌, ◌-◌, ◌*◌, get_or, length}
+use Rattle.std.specs.Prelude.{List, Bool, true, not, ℕ, ◌+◌, ◌-◌, ◌*◌, get_or, length, Result, Ok, Err, Some}
 use Rattle.sets.specs.Truth.{◌and◌, ◌or◌, same, less, one_to, select}
 use Rattle.global_data.specs.GlobalData.{value_in, diet_fits}
+use Rattle.refusal.specs.declared.Refusal.{Refusal}
+use Rattle.refusal.specs.declared.Refusal.TheVariants.{Length, Kind, Field, Diet}
 use Rattle.bench.specs.declared.Message.{Message}
 use Rattle.bench.specs.declared.Message.TheVariants.{Estimate, Decision}
 use Rattle.bench.specs.declared.Event.{Event}
 use Rattle.bench.specs.declared.Event.TheVariants.{Start, Send, Arrive, Close, Crash, Suspect}
-use Rattle.bench.specs.declared.Decoded.{Decoded}
-use Rattle.bench.specs.declared.Decoded.TheVariants.{Got, Refused}
 
 -- four bytes, the low one first: of a value the portions, then the diet portions (request C-15)
 unfoldable pub word_of : ℕ → ℕ → ℕ → ℕ → ℕ
@@ -38,11 +38,10 @@ event_of kind a b r v =
     (select (same kind 4) (Close a) (select (same kind 5) (Crash a) (Suspect a b)))))
 
 -- kind, a, b, r and value of a record: refusal 4, then 5, else the event
-unfoldable pub parts_of : ℕ → ℕ → ℕ → ℕ → ℕ → ℕ → ℕ → Decoded
+unfoldable pub parts_of : ℕ → ℕ → ℕ → ℕ → ℕ → ℕ → ℕ → Result Event Refusal
 parts_of n t kind a b r v =
     select (one_to 6 kind)
-    (select (fields n t kind a b r v) (Got (event_of kind (a - 1) (b - 1) r v)) (Refused (record { number = 5 })))
-    (Refused (record { number = 4 }))
+    (select (fields n t kind a b r v) (Ok (event_of kind (a - 1) (b - 1) r v)) (Err Field)) (Err Kind)
 
 -- the value of a record's last four bytes
 unfoldable pub value_of : List ℕ → ℕ
@@ -53,10 +52,10 @@ unfoldable pub is_kind : ℕ → List ℕ → Bool
 is_kind kind l = same (length l) 8 and same (get_or l 0 0) kind
 
 -- any bytes: refusal 3, else by their parts
-unfoldable pub read_of : ℕ → ℕ → List ℕ → Decoded
+unfoldable pub read_of : ℕ → ℕ → List ℕ → Result Event Refusal
 read_of n t l =
     select (same (length l) 8) (parts_of n t (get_or l 0 0) (get_or l 1 0) (get_or l 2 0) (get_or l 3 0) (value_of l))
-    (Refused (record { number = 3 }))
+    (Err Length)
 
 -- ---- one of four, by an event's kind: of a start, by its process and value; of a close, by its process; of a crash;
 -- or of another
@@ -70,15 +69,15 @@ by_kind start close crash other (Suspect a b) = other
 
 -- the diet portions of a start do not exceed its portions; no other record has any
 unfoldable pub start_fits : Event → Bool
-start_fits e = by_kind (λ a v. diet_fits (value_in v)) (λ a. true) true true e
+start_fits e = by_kind (λ a v. diet_fits (Some (value_in v))) (λ a. true) true true e
 
 -- refusal 15 (request C-15), after 3, 4 and 5
-unfoldable pub check_diet : Decoded → Decoded
-check_diet (Got e) = select (start_fits e) (Got e) (Refused (record { number = 15 }))
-check_diet (Refused r) = Refused r
+unfoldable pub check_diet : Result Event Refusal → Result Event Refusal
+check_diet (Ok e) = select (start_fits e) (Ok e) (Err Diet)
+check_diet (Err r) = Err r
 
 -- what some bytes are to a bench of n processes and crash limit t: refused by 3, 4, 5 or 15, or an event
-unfoldable pub decode_of : ℕ → ℕ → List ℕ → Decoded
+unfoldable pub decode_of : ℕ → ℕ → List ℕ → Result Event Refusal
 decode_of n t l = check_diet (read_of n t l)
 
 -- ---- the form by whose rules a call goes (request C-17): v1 before request C-15, when a value was one number; v2
@@ -87,6 +86,6 @@ pub data Form : Type 0 where
   v1 : Form
   v2 : Form
 
-unfoldable pub decode_as : Form → ℕ → ℕ → List ℕ → Decoded
+unfoldable pub decode_as : Form → ℕ → ℕ → List ℕ → Result Event Refusal
 decode_as v1 n t l = read_of n t l
 decode_as v2 n t l = decode_of n t l

@@ -1,16 +1,16 @@
 -- What is turned away (document 01): the number of the first check that fails, in the order of the numbers, with 15
 -- after 5 (request C-15), or 0.
-use Rattle.std.specs.Prelude.{List, Bool, true, false, not, ℕ}
+use Rattle.std.specs.Prelude.{List, Bool, true, false, not, ℕ, Result, Ok, Err}
 use Rattle.sets.specs.Set.{has, size_of, empty_set}
 use Rattle.sets.specs.Truth.{◌and◌, ◌or◌, same, less, check}
 use Rattle.process.specs.Steps.{takes_part, due_of}
+use Rattle.refusal.specs.declared.Refusal.{Refusal}
+use Rattle.refusal.specs.Numbers.{refusal_number}
 use Rattle.bench.specs.declared.Bench.{Bench}
 use Rattle.bench.specs.declared.Message.{Message}
 use Rattle.bench.specs.declared.Message.TheVariants.{Estimate, Decision}
 use Rattle.bench.specs.declared.Event.{Event}
 use Rattle.bench.specs.declared.Event.TheVariants.{Start, Send, Arrive, Close, Crash, Suspect}
-use Rattle.bench.specs.declared.Decoded.{Decoded}
-use Rattle.bench.specs.declared.Decoded.TheVariants.{Got, Refused}
 use Rattle.bench.specs.State.{process_at, transit_at, crashed_at}
 use Rattle.bench.specs.Sound.{sound_of}
 use Rattle.bench.specs.Record.{by_kind, Form, v2, decode_as}
@@ -57,9 +57,9 @@ unfoldable pub refuses : Event → Bench → ℕ
 refuses e s =
     check (not (crashed_at s (actor e))) 6 (check (passes7 e s) 7 (check (passes8 e s) 8 (check (passes9 e s) 9 0)))
 
-unfoldable pub refuses_decoded : Decoded → Bench → ℕ
-refuses_decoded (Got e) s = refuses e s
-refuses_decoded (Refused r) s = r.number
+unfoldable pub refuses_decoded : Result Event Refusal → Bench → ℕ
+refuses_decoded (Ok e) s = refuses e s
+refuses_decoded (Err r) s = refusal_number r
 
 -- 2 to 9 and 15, of any bytes by the rules of a form
 unfoldable pub refusal_by : Form → Bench → List ℕ → ℕ

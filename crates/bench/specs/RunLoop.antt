@@ -1,25 +1,24 @@
 -- Document 01's run as a loop, turn by turn (`run_from`), and one record the same way: `run_loop` and `step_is` of
 -- RunLaws show that the calls' definitions are these. No claim needs them.
-use Rattle.std.specs.Prelude.{List, ℕ, zero, suc, ◌+◌, length, take, drop}
+use Rattle.std.specs.Prelude.{List, ℕ, zero, suc, ◌+◌, length, take, drop, Option, None, Result, Ok, Err}
 use Rattle.sets.specs.Truth.{same, select}
 use Rattle.process.specs.declared.Closing.{Closing}
-use Rattle.process.specs.declared.Closing.TheVariants.{None}
+use Rattle.refusal.specs.declared.Refusal.{Refusal}
+use Rattle.refusal.specs.Numbers.{refused}
 use Rattle.bench.specs.declared.Bench.{Bench}
 use Rattle.bench.specs.declared.Cause.{Cause}
-use Rattle.bench.specs.declared.Cause.TheVariants.{Empty, Spent, Refused as RefusedRun}
+use Rattle.bench.specs.declared.Cause.TheVariants.{Empty, Spent, Refused}
 use Rattle.bench.specs.declared.Ended.{Ended}
-use Rattle.bench.specs.declared.Decoded.{Decoded}
-use Rattle.bench.specs.declared.Decoded.TheVariants.{Got, Refused}
+use Rattle.bench.specs.declared.Event.{Event}
 use Rattle.bench.specs.Record.{Form, v2, decode_as}
 use Rattle.bench.specs.Refuse.{refusal_by}
 use Rattle.bench.specs.Effect.{effect}
 use Rattle.bench.specs.Closings.{closing_at, last_of}
-use Rattle.bench.specs.Calls.{refused}
 
 -- ---- one record: what it does where it is accepted, of what some bytes are decoded to
-unfoldable pub effect_decoded : Decoded → Bench → Bench
-effect_decoded (Got e) s = effect e s
-effect_decoded (Refused r) s = s
+unfoldable pub effect_decoded : Result Event Refusal → Bench → Bench
+effect_decoded (Ok e) s = effect e s
+effect_decoded (Err r) s = s
 
 -- of any bytes that are accepted
 unfoldable pub effect_by : Form → Bench → List ℕ → Bench
@@ -29,16 +28,16 @@ unfoldable pub effect_of : Bench → List ℕ → Bench
 effect_of s bytes = effect_by v2 s bytes
 
 -- how it ends a round: of what some bytes are decoded to
-unfoldable pub closing_decoded : Decoded → Bench → Closing
-closing_decoded (Got e) s = closing_at e s
-closing_decoded (Refused r) s = None
+unfoldable pub closing_decoded : Result Event Refusal → Bench → Option Closing
+closing_decoded (Ok e) s = closing_at e s
+closing_decoded (Err r) s = None
 
 -- of any bytes: none where they are refused
-unfoldable pub ends_by : Form → Bench → List ℕ → Closing
+unfoldable pub ends_by : Form → Bench → List ℕ → Option Closing
 ends_by f s bytes =
     select (same (refusal_by f s bytes) 0) (closing_decoded (decode_as f s.n s.t bytes) s) None
 
-unfoldable pub closing_in : Bench → List ℕ → Closing
+unfoldable pub closing_in : Bench → List ℕ → Option Closing
 closing_in s bytes = ends_by v2 s bytes
 
 -- the bench after one record: a refused one leaves it as it is
@@ -46,13 +45,13 @@ abbrev pub after_by : Form → Bench → List ℕ → Bench
 after_by f s bytes = select (same (refusal_by f s bytes) 0) (effect_by f s bytes) s
 
 -- ---- how a run ended
-unfoldable pub ended_of : Bench → ℕ → Cause → Closing → ℕ → Ended
+unfoldable pub ended_of : Bench → ℕ → Cause → Option Closing → ℕ → Ended
 ended_of s accepted cause closing taken =
     record { bench = s; accepted = accepted; cause = cause; closing = closing; taken = taken }
 
 -- with a budget, the bytes not yet taken, what was accepted and taken so far, and the last closing so far.
 -- A last part shorter than 8 bytes is a record of that length.
-unfoldable pub run_from : Form → ℕ → List ℕ → Bench → ℕ → Closing → ℕ → Ended
+unfoldable pub run_from : Form → ℕ → List ℕ → Bench → ℕ → Option Closing → ℕ → Ended
 run_from f zero l s accepted closing taken =
     ended_of s accepted (select (same (length l) 0) Empty Spent) closing taken
 run_from f (suc budget) l s accepted closing taken =
@@ -60,4 +59,4 @@ run_from f (suc budget) l s accepted closing taken =
     let c = last_of closing (ends_by f s (take 8 l)) in
     select (same (length l) 0) (ended_of s accepted Empty closing taken)
     (select (same r 0) (run_from f budget (drop 8 l) (effect_by f s (take 8 l)) (accepted + 1) c (taken + 8))
-    (ended_of s accepted (RefusedRun (refused r)) closing taken))
+    (ended_of s accepted (Refused (refused r)) closing taken))

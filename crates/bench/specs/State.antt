@@ -1,5 +1,5 @@
 -- The bench's state: its parts, the bench with one part changed, and the opened bench.
-use Rattle.std.specs.Prelude.{List, [], Bool, ℕ, ◌+◌, ◌-◌, ◌*◌, get_or, set, replicate}
+use Rattle.std.specs.Prelude.{List, Bool, ℕ, ◌+◌, ◌-◌, ◌*◌, get_or, set, replicate}
 use Rattle.sets.specs.Set.{has, insert_of, empty_set}
 use Rattle.global_data.specs.declared.GlobalData.{GlobalData}
 use Rattle.global_data.specs.GlobalData.{no_data, nothing_of}

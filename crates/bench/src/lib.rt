@@ -6,6 +6,7 @@ mod open;
 use global_data::GlobalData;
 pub use open::sizes_open;
 use process::{Closing, Process};
+use refusal::Refusal;
 
 // A message: an estimate with its round, or a decision. Its global data is kept in the bench.
 #[derive(Clone, Copy)]
@@ -48,25 +49,6 @@ pub enum Event {
     },
 }
 
-// A number of document 01's table of what is turned away.
-#[derive(Clone, Copy)]
-pub struct Refusal {
-    pub number: u8,
-}
-
-#[derive(Clone, Copy)]
-pub enum Decoded {
-    Got(Event),
-    Refused(Refusal),
-}
-
-// What a call that steps or opens answers.
-#[derive(Clone, Copy)]
-pub enum Answer {
-    Accepted,
-    Refused(Refusal),
-}
-
 // The state: n processes and the crash limit t, who has crashed, the processes, for each of them
 // and each round from 1 the estimate that it held when the round opened, and for each of them and each message (0: its
 // decision) to whom it is on its way.
@@ -81,25 +63,18 @@ pub struct Bench {
     pub in_transit: [u16; 272],
 }
 
-// What opening gives; refused, the bench is all zero.
-#[derive(Clone, Copy)]
-pub struct Opened {
-    pub answer: Answer,
-    pub bench: Bench,
-}
-
 // What carrying gives; the bench is as it was in any case.
 #[derive(Clone, Copy)]
 pub struct Carried {
-    pub answer: Answer,
+    pub answer: Result<(), Refusal>,
     pub bench: Bench,
 }
 
 // What the call for one record gives. A closing is that of an accepted close, and none of any other record.
 #[derive(Clone, Copy)]
 pub struct Stepped {
-    pub answer: Answer,
-    pub closing: Closing,
+    pub answer: Result<(), Refusal>,
+    pub closing: Option<Closing>,
     pub bench: Bench,
 }
 
@@ -127,20 +102,6 @@ pub struct Ended {
     pub bench: Bench,
     pub accepted: u32,
     pub cause: Cause,
-    pub closing: Closing,
+    pub closing: Option<Closing>,
     pub taken: usize,
-}
-
-// What the call for a process's global data answers: the present marks.
-#[derive(Clone, Copy)]
-pub enum Shown {
-    Marks(u16),
-    Refused(Refusal),
-}
-
-// What the call for the list in transit answers: how many messages there are.
-#[derive(Clone, Copy)]
-pub enum Listed {
-    Count(usize),
-    Refused(Refusal),
 }

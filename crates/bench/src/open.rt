@@ -4,9 +4,10 @@ ghost use Rattle.bench.specs.State.{opened_of};
 ghost use Rattle.bench.specs.Sound.{opens};
 ghost use Rattle.bench.specs.Calls.{open_of};
 
-use crate::{Answer, Bench, Opened, Refusal};
+use crate::Bench;
 use global_data::GlobalData;
 use process::Process;
+use refusal::Refusal;
 
 // n is 1 to 16, and t below n.
 pub fn sizes_open(n: u8, t: u8) -> bool
@@ -28,14 +29,15 @@ impl Bench {
     pub const RECORD: usize = 8;
 
     // Nobody has started or crashed, and nothing is sent.
+    #[tactic(auto, unfolding(crate::specs::State::opened_of))]
     fn fresh(n: u8, t: u8) -> Bench
         ensures { result ≡ opened_of n t }
     {
         let p = Process::idle();
         let g = GlobalData::nothing();
         Bench {
-            n: n,
-            t: t,
+            n,
+            t,
             crashed: sets::empty(),
             processes: [p; Bench::PROCESSES],
             sent: [g; Bench::ROWS],
@@ -43,20 +45,15 @@ impl Bench {
         }
     }
 
-    // A bench of n processes of which t may crash. Refused, the bench is all zero.
-    pub fn open(n: u8, t: u8) -> Opened
+    // A bench of n processes of which t may crash.
+    #[tactic(auto, unfolding(crate::specs::Calls::open_of, sets::specs::Truth::select))]
+    pub fn open(n: u8, t: u8) -> Result<Bench, Refusal>
         ensures { result ≡ open_of n t }
     {
         if sizes_open(n, t) {
-            Opened {
-                answer: Answer::Accepted,
-                bench: Bench::fresh(n, t),
-            }
+            Ok(Bench::fresh(n, t))
         } else {
-            Opened {
-                answer: Answer::Refused(Refusal { number: 1 }),
-                bench: Bench::fresh(0, 0),
-            }
+            Err(Refusal::Size)
         }
     }
 }

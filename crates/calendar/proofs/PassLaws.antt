@@ -1,28 +1,30 @@
 -- One pass over the records tells who takes part: of each kind and site it marks the weekdays that lie in a record,
 -- and a site takes part where a day marked as term is not marked as closed. By induction on the records looked at.
-use Rattle.std.specs.Prelude.{◌≡◌, refl, Bool, false, List, ◌≢◌, ◌⊎◌, get_or, set, replicate}
-use Rattle.std.proofs.Math.Path.{sym, ap, ap₂}
-use Rattle.std.proofs.Common.{◌∙◌, inl, inr, length-set, get_or-set_same, get_or-set_other}
-use Rattle.std.proofs.Math.Bool.{true, not}
-use Prim.Native.Nat.{ℕ, suc, ◌+◌, ◌-◌, ◌*◌, ◌≤◌, ◌<◌, min}
-use native.Mathlib.Omega.{arith}
+use Rattle.std.specs.Prelude.{◌≡◌, refl, Bool, true, false, not, List, [], ℕ, suc, ◌+◌, ◌-◌, ◌*◌, ◌/◌, ◌≤◌, ◌<◌, min}
+use Rattle.std.specs.Prelude.{length, ◌≢◌, ◌⊎◌, zero, get_or, set, take, drop, replicate}
+use Rattle.std.proofs.Common.{◌∙◌, sym, ap, ap₂, arith, inl, inr, length-set, get_or-set_same, get_or-set_other}
 use Rattle.std.proofs.Math.ListN.{length-replicate}
-use Rattle.std.proofs.lemmas.List.{get_or-replicate}
+use Rattle.std.proofs.lemmas.List.{get_or-replicate, get_or-take, get_or-drop, drop-drop}
+use Rattle.std.specs.Simd.{first_chunks}
 use Rattle.sets.specs.EveryLaws.{some_on, some_mk, some_none, some_suc}
-use Rattle.sets.specs.Laws.{has_all, has_difference, has_empty, has_insert, has_union, nothing_in, member_of}
-use Rattle.sets.specs.Set.{has, insert_of, union_of, difference_of, all_of}
+use Rattle.sets.specs.Laws.{has_all, has_difference, has_union, nothing_in, member_of}
+use Rattle.sets.specs.Set.{has, difference_of, all_of}
 use Rattle.sets.specs.Truth.{◌and◌, ◌or◌, same, less, one_to}
-use Rattle.sets.specs.TruthLaws.{clash, off_by, by_both, and_first, and_second, and_mk, and_on_l, and_off_l, and_off_r}
-use Rattle.sets.specs.TruthLaws.{or_mk_l, or_off_l}
+use Rattle.sets.specs.TruthLaws.{clash, by_both, and_first, and_second, and_mk, and_on_r, and_off_l, and_off_r}
+use Rattle.sets.specs.TruthLaws.{or_off_l, or_off_r}
 use Rattle.sets.specs.TruthLaws.{not_on, same_on, same_mk, same_not}
 use Rattle.sets.specs.TruthLaws.{same_off, less_on, less_mk, less-not, less_off, eq-or, one_low, one_high, one_mk}
+use Rattle.calendar.specs.declared.Kind.{Kind}
+use Rattle.calendar.specs.declared.Kind.TheVariants.{Term, Closed}
+use Rattle.calendar.specs.declared.Marks.{Marks}
 use Rattle.calendar.specs.declared.Period.{Period}
-use Rattle.calendar.specs.Calendar.{periods_in, period_at, well_formed, own_of, lies, has_day, lies_in, open_on}
-use Rattle.calendar.specs.Calendar.{takes_part_in, somebody_in}
-use Rattle.calendar.specs.PassLaws.{lies_in_to, slot_of, Marked, Collected, some_day}
+use Rattle.calendar.specs.Calendar.{Record, kind_number, periods_in, period_at, well_formed, own_of, lies, has_day}
+use Rattle.calendar.specs.Calendar.{lies_in, open_on}
+use Rattle.calendar.specs.Calendar.{takes_part_in}
+use Rattle.calendar.specs.PassLaws.{record_of, lies_in_to, no_marks, marked_by, with_days, Marked, some_day, open_in}
 
 -- ---- the weekdays of one record: those before its end without those before its beginning
-module _ (monday : ℕ) (p : Period) where
+module _ (monday : ℕ) (p : Record) where
   pub weekdays : (i : ℕ)
       → has (difference_of (all_of (min (p.last + 1 - monday) 5)) (all_of (min (p.first - monday) 5))) i
       ≡ (less i 5 and lies (monday + i) p)
@@ -48,151 +50,136 @@ module _ (monday : ℕ) (p : Period) where
           let c : monday + i ≤ p.last = less-not _ _ (not_on _ (and_second _ _ (and_second _ _ e))) in
           and_mk _ _ (less_mk i _ (omega arith)) (ap not (less_off i (min (p.first - monday) 5) (omega arith)))
 
+-- ---- a well-formed record by its parts
+pub record Formed (p : Record) : Type 0 where
+  pub low : 1 ≤ p.site
+  pub high : p.site ≤ 16
+  pub kinds : one_to 2 p.kind ≡ true
+  pub order : p.first ≤ p.last
+  pub nought : p.rest ≡ 0
+
+module _ (p : Record) where
+  pub formed_parts : well_formed p ≡ true → Formed p
+  unfolding well_formed
+  formed_parts e =
+      let s : one_to 16 p.site ≡ true = and_first _ _ e in
+      let k = and_second _ _ e in
+      let d = and_second _ _ k in
+      record {
+        low = one_low 16 p.site s;
+        high = one_high 16 p.site s;
+        kinds = and_first _ _ k;
+        order = less-not p.last p.first (not_on _ (and_first _ _ d));
+        nought = same_on p.rest 0 (and_second _ _ d);
+      }
+
+  pub formed_mk : Formed p → well_formed p ≡ true
+  unfolding well_formed
+  formed_mk f =
+      and_mk _ _ (one_mk 16 p.site f.low f.high)
+      (and_mk _ _ f.kinds (and_mk _ _ (ap not (less_off p.last p.first f.order)) (same_mk p.rest 0 f.nought)))
+
 -- ---- what is marked
 
--- a well-formed record has a slot
-pub record Slot (p : Period) : Type 0 where
-  pub kinds : one_to 2 p.kind ≡ true
-  pub sites : one_to 16 p.site ≡ true
-  pub low_kind : 1 ≤ p.kind
-  pub low_site : 1 ≤ p.site
-  pub inside : slot_of p.kind p.site < 32
+no_days : (kind : Kind) → marked_by kind no_marks ≡ 0
+no_days Term = refl
+no_days Closed = refl
 
-pub slot : (p : Period) → well_formed p ≡ true → Slot p
-unfolding well_formed
-slot p e =
-    let s : one_to 16 p.site ≡ true = and_first _ _ e in
-    let k : one_to 2 p.kind ≡ true = and_first _ _ (and_second _ _ e) in
-    record {
-      kinds = k;
-      sites = s;
-      low_kind = one_low 2 p.kind k;
-      low_site = one_low 16 p.site s;
-      inside = omega (arith, one_high 2 p.kind k, one_high 16 p.site s, one_low 16 p.site s);
-    }
+-- some days more of one kind, and the days of each
+has_with : (m : Marks) (kind k : Kind) (days i : ℕ)
+    → has (marked_by k (with_days m kind days)) i
+    ≡ (has (marked_by k m) i or (same (kind_number kind) (kind_number k) and has days i))
+unfolding same ◌and◌
+has_with m Term Term days i = has_union m.term days i
+has_with m Closed Closed days i = has_union m.closed days i
+has_with m Term Closed days i = sym (or_off_r (has m.closed i) false refl)
+has_with m Closed Term days i = sym (or_off_r (has m.term i) false refl)
 
 and_none : (b : Bool) → false ≡ (b and false)
-unfolding ◌and◌
-and_none true = refl
-and_none false = refl
+and_none b = sym (and_off_r b false refl)
 
--- one record more, of this slot and of another
-more_days : (b l c o : Bool) → o ≡ true → ((b and l) or (b and c)) ≡ (b and ((o and c) or l))
+-- one record more: o says that it is of the kind and site
+more_days : (b l c o : Bool) → ((b and l) or (o and (b and c))) ≡ (b and ((o and c) or l))
 unfolding ◌and◌ ◌or◌
-more_days true true true o e = cc
-more_days true true false o e = cc
-more_days true false true o e = cc
-more_days true false false o e = cc
-more_days false l c o e = refl
-
-no_days : (b l c o : Bool) → o ≡ false → (b and l) ≡ (b and ((o and c) or l))
-unfolding ◌and◌ ◌or◌
-no_days b l c o e = cc
+more_days true true true true = refl
+more_days true true true false = refl
+more_days true true false true = refl
+more_days true true false false = refl
+more_days true false true true = refl
+more_days true false true false = refl
+more_days true false false true = refl
+more_days true false false false = refl
+more_days false l c true = refl
+more_days false l c false = refl
 
 module _ (calendar : List ℕ) (monday : ℕ) where
-  pub mark_none : Marked calendar monday 0 (replicate 32 0)
+  pub mark_none : Marked calendar monday 0 (replicate 16 no_marks)
   unfolding lies_in_to
   mark_none = record {
-    long = length-replicate {A = ℕ} 32 0;
-    marked = λ kind site i k s.
-        nothing_in _
-        (get_or-replicate {A = ℕ} 32 (slot_of kind site) 0 0
-        (omega (arith, one_high 2 kind k, one_high 16 site s, one_low 16 site s))) i
-        ∙ and_none (less i 5) ∙ ap (λ b. less i 5 and b) (sym (some_none 0 _ (λ k l. absurd (omega arith))));
+    long = length-replicate {A = Marks} 16 no_marks;
+    marked = λ kind k i l.
+        ap (λ m. has (marked_by kind m) i) (get_or-replicate {A = Marks} 16 k no_marks no_marks l)
+        ∙ nothing_in _ (no_days kind) i ∙ and_none (less i 5)
+        ∙ ap (λ b. less i 5 and b) (sym (some_none 0 _ (λ k l. absurd (omega arith))));
   }
 
-  module _ (j new : ℕ) (days : List ℕ) (w : well_formed (period_at calendar j) ≡ true)
-      (h : (i : ℕ) → has new i ≡ (less i 5 and lies (monday + i) (period_at calendar j)))
-      (m : Marked calendar monday j days) where
-    abbrev p : Period
-    p = period_at calendar j
-
+  module _ (j days : ℕ) (period : Period) (sites : List Marks) (e : record_of period ≡ period_at calendar j)
+      (s : one_to 16 period.site ≡ true)
+      (h : (i : ℕ) → has days i ≡ (less i 5 and lies (monday + i) (record_of period)))
+      (m : Marked calendar monday j sites) where
     abbrev at : ℕ
-    at = slot_of p.kind p.site
+    at = period.site - 1
 
-    abbrev after : List ℕ
-    after = set days at (union_of (get_or days at 0) new)
+    abbrev after : List Marks
+    after = set sites at (with_days (get_or sites at no_marks) period.kind days)
 
     -- a day in one of the first j records, or in this one
-    lies_more : (kind site day : ℕ)
+    lies_more : (kind : Kind) (site day : ℕ)
         → lies_in_to calendar (suc j) kind site day
-        ≡ (has_day kind site day p or lies_in_to calendar j kind site day)
+        ≡ (has_day kind site day (record_of period) or lies_in_to calendar j kind site day)
     unfolding lies_in_to
-    lies_more kind site day = some_suc j _
+    lies_more kind site day =
+        some_suc j _ ∙ ap (λ p. has_day kind site day p or lies_in_to calendar j kind site day) (sym e)
 
-    abbrev Here : ℕ → ℕ → ℕ → Type 0
-    Here kind site i =
-        has (get_or after (slot_of kind site) 0) i ≡ (less i 5 and lies_in_to calendar (suc j) kind site (monday + i))
+    abbrev Here : Kind → ℕ → ℕ → Type 0
+    Here kind k i =
+        has (marked_by kind (get_or after k no_marks)) i
+        ≡ (less i 5 and lies_in_to calendar (suc j) kind (k + 1) (monday + i))
 
-    its_own : (i : ℕ) → Here p.kind p.site i
+    its_own : (kind : Kind) (k i : ℕ) → k < 16 → k ≡ at → Here kind k i
     unfolding own_of
-    its_own i =
-        let z = slot p w in
-        ap (λ (x : ℕ). has x i) (get_or-set_same days at _ 0 (omega (arith, z.inside, m.long)))
-        ∙ has_union (get_or days at 0) new i ∙ ap₂ ◌or◌ (m.marked p.kind p.site i z.kinds z.sites) (h i)
-        ∙ more_days (less i 5) _ (lies (monday + i) p) (own_of p.kind p.site p)
-        (and_mk _ _ (same_mk p.kind p.kind refl) (same_mk p.site p.site refl))
-        ∙ ap (λ b. less i 5 and b) (sym (lies_more p.kind p.site (monday + i)))
+    its_own kind k i l u =
+        let v : period.site ≡ k + 1 = omega (arith, one_low 16 period.site s) in
+        let w : at < 16 = omega arith in
+        ap (λ x. has (marked_by kind (get_or after x no_marks)) i) u
+        ∙ ap (λ x. has (marked_by kind x) i) (get_or-set_same sites at _ no_marks (omega (arith, w, m.long)))
+        ∙ has_with (get_or sites at no_marks) period.kind kind days i
+        ∙ ap₂ (λ x y. x or (y and has days i))
+        (ap (λ x. has (marked_by kind (get_or sites x no_marks)) i) (sym u) ∙ m.marked kind k i l)
+        (sym (and_on_r _ _ (same_mk _ _ v)))
+        ∙ ap (λ x. (less i 5 and lies_in_to calendar j kind (k + 1) (monday + i))
+        or (own_of kind (k + 1) (record_of period) and x)) (h i)
+        ∙ more_days (less i 5) _ (lies (monday + i) (record_of period)) (own_of kind (k + 1) (record_of period))
+        ∙ ap (λ b. less i 5 and b) (sym (lies_more kind (k + 1) (monday + i)))
 
-    another : (kind site i : ℕ) → one_to 2 kind ≡ true → one_to 16 site ≡ true → slot_of kind site ≢ at → Here kind site i
+    another : (kind : Kind) (k i : ℕ) → k < 16 → k ≢ at → Here kind k i
     unfolding own_of
-    another kind site i k s d =
-        ap (λ (x : ℕ). has x i) (get_or-set_other days at (slot_of kind site) _ 0 d) ∙ m.marked kind site i k s
-        ∙ no_days (less i 5) _ (lies (monday + i) p) (own_of kind site p)
-        (off_by (own_of kind site p) (λ e. d (omega (
-          arith,
-          same_on p.kind kind (and_first _ _ e),
-          same_on p.site site (and_second _ _ e),
-        ))))
-        ∙ ap (λ b. less i 5 and b) (sym (lies_more kind site (monday + i)))
+    another kind k i l d =
+        let o : own_of kind (k + 1) (record_of period) ≡ false =
+        and_off_r _ _ (same_off _ _ (λ v. d (omega arith))) in
+        ap (λ x. has (marked_by kind x) i) (get_or-set_other sites at k _ no_marks d) ∙ m.marked kind k i l
+        ∙ ap (λ b. less i 5 and b)
+        (sym (or_off_l _ _ (and_off_l _ _ o)) ∙ sym (lies_more kind (k + 1) (monday + i)))
 
-    -- two slots that are one are of one kind and site
     pub mark_more : Marked calendar monday (suc j) after
     mark_more = record {
-      long = length-set days at _ ∙ m.long;
-      marked = λ kind site i k s. go kind site i k s (eq-or (slot_of kind site) at);
+      long = length-set sites at _ ∙ m.long;
+      marked = λ kind k i l. go kind k i l (eq-or k at);
     }
       where
-        go : (kind site i : ℕ) → one_to 2 kind ≡ true → one_to 16 site ≡ true
-            → (slot_of kind site ≡ at) ⊎ (slot_of kind site ≢ at) → Here kind site i
-        go kind site i k s (inr d) = another kind site i k s d
-        go kind site i k s (inl e) =
-            let z = slot p w in
-            let a = one_low 2 kind k in
-            let b = one_low 16 site s in
-            let c = one_high 16 site s in
-            let f = one_high 16 p.site z.sites in
-            let u : kind ≡ p.kind = omega (arith, z.low_kind, z.low_site) in
-            let v : site ≡ p.site = omega (arith, z.low_kind, z.low_site) in
-            rw (u, v) (its_own i)
-
-pub collect_none : (q : ℕ → Bool) → Collected q 0 0
-collect_none q k = has_empty k ∙ sym (and_off_l _ _ (less_off k 0 (omega arith)))
-
-module _ (q : ℕ → Bool) (i m : ℕ) (h : Collected q i m) where
-  -- a number other than i is below both or neither
-  apart : (k : ℕ) → k ≢ i → has m k ≡ (less k (i + 1) and q k)
-  apart k d =
-      h k
-      ∙ ap (λ b. b and q k)
-      (by_both (less k i) (less k (i + 1)) (λ e. less_mk k (i + 1) (omega (arith, less_on k i e)))
-      (λ e. less_mk k i (omega (arith, less_on k (i + 1) e))))
-
-  pub collect_on : q i ≡ true → Collected q (i + 1) (insert_of m i)
-  collect_on e k = has_insert m i k ∙ go (eq-or k i)
-    where
-      go : (k ≡ i) ⊎ (k ≢ i) → (same k i or has m k) ≡ (less k (i + 1) and q k)
-      go (inl u) =
-          or_mk_l _ _ (same_mk k i u) ∙ sym (and_mk _ _ (less_mk k (i + 1) (omega arith)) (ap q u ∙ e))
-      go (inr d) = or_off_l _ _ (same_off k i d) ∙ apart k d
-
-  pub collect_off : q i ≡ false → Collected q (i + 1) m
-  collect_off e k = go (eq-or k i)
-    where
-      go : (k ≡ i) ⊎ (k ≢ i) → has m k ≡ (less k (i + 1) and q k)
-      go (inl u) =
-          h k ∙ and_off_l _ _ (less_off k i (omega arith)) ∙ sym (and_off_r _ _ (ap q u ∙ e))
-      go (inr d) = apart k d
+        go : (kind : Kind) (k i : ℕ) → k < 16 → (k ≡ at) ⊎ (k ≢ at) → Here kind k i
+        go kind k i l (inl u) = its_own kind k i l u
+        go kind k i l (inr d) = another kind k i l d
 
 -- ---- from the marks to who takes part
 
@@ -201,28 +188,22 @@ unfolding ◌and◌
 shared true x y = refl
 shared false x y = refl
 
-module _ (calendar : List ℕ) (week : ℕ) (days : List ℕ)
-    (m : Marked calendar (7 * week) (periods_in calendar) days) where
+module _ (calendar : List ℕ) (week : ℕ) (sites : List Marks)
+    (m : Marked calendar (7 * week) (periods_in calendar) sites) where
   open_day : (i d : ℕ) → i < 16
-      → has (difference_of (get_or days i 0) (get_or days (i + 16) 0)) d
+      → has (difference_of (get_or sites i no_marks).term (get_or sites i no_marks).closed) d
       ≡ (less d 5 and open_on calendar (i + 1) (7 * week + d))
   unfolding open_on lies_in lies_in_to
   open_day i d l =
-      let s : one_to 16 (i + 1) ≡ true = one_mk 16 (i + 1) (omega arith) (omega arith) in
-      let a : slot_of 1 (i + 1) ≡ i = omega arith in
-      let b : slot_of 2 (i + 1) ≡ i + 16 = omega arith in
-      let one : one_to 2 1 ≡ true = one_mk 2 1 (omega arith) (omega arith) in
-      let two : one_to 2 2 ≡ true = one_mk 2 2 (omega arith) (omega arith) in
-      has_difference _ _ d
-      ∙ ap₂ (λ x y. x and not y)
-      (ap (λ (k : ℕ). has (get_or days k 0) d) (sym a) ∙ m.marked 1 (i + 1) d one s)
-      (ap (λ (k : ℕ). has (get_or days k 0) d) (sym b) ∙ m.marked 2 (i + 1) d two s)
+      has_difference _ _ d ∙ ap₂ (λ x y. x and not y) (m.marked Term i d l) (m.marked Closed i d l)
       ∙ shared (less d 5) _ _
 
-  pub part_is : (i : ℕ) → i < 16 → some_day days i ≡ takes_part_in calendar week (i + 1)
+  pub part_is : (i : ℕ) → i < 16 → open_in sites (i + 1) ≡ takes_part_in calendar week (i + 1)
   unfolding some_day takes_part_in
   part_is i l =
-      by_both _ _
+      let e : i + 1 - 1 ≡ i = omega arith in
+      ap (λ k. some_day (get_or sites k no_marks)) e
+      ∙ by_both _ _
       (λ e.
       let w = member_of left (same_not left 0 (not_on _ e)) in
       let b : (less w.0 5 and open_on calendar (i + 1) (7 * week + w.0)) ≡ true =
@@ -234,18 +215,38 @@ module _ (calendar : List ℕ) (week : ℕ) (days : List ℕ)
       (open_day i w.0 l ∙ and_mk _ _ (less_mk w.0 5 w.1) w.2) (nothing_in left z w.0))))
     where
       left : ℕ
-      left = difference_of (get_or days i 0) (get_or days (i + 16) 0)
+      left = difference_of (get_or sites i no_marks).term (get_or sites i no_marks).closed
 
-  -- so the set collected from the marks has just those who take part
-  module _ (set : ℕ) (h : Collected (some_day days) 16 set) where
-    pub part_in : (i : ℕ) → i < 16 → has set i ≡ takes_part_in calendar week (i + 1)
-    part_in i l = h i ∙ and_on_l _ _ (less_mk i 16 l) ∙ part_is i l
+-- ---- the records as the pass has them: eight bytes each
+chunk_at : (k : ℕ) (xs : List ℕ) (j : ℕ) → j < k → get_or (first_chunks 8 k xs) j [] ≡ take 8 (drop (8 * j) xs)
+chunk_at zero xs j l = absurd (omega arith)
+chunk_at (suc k) xs zero l = refl
+chunk_at (suc k) xs (suc j) l =
+    let e : 8 * j + 8 ≡ 8 * suc j = omega arith in
+    chunk_at k (drop 8 xs) j (omega arith) ∙ ap (take 8) (drop-drop (8 * j) 8 xs)
+    ∙ ap (λ (i : ℕ). take 8 (drop i xs)) (omega arith)
 
-    pub nobody : set ≡ 0 → somebody_in calendar week ≡ false
-    nobody e = some_none 16 _ (λ i l. sym (part_in i l) ∙ nothing_in set e i)
+-- each has the record at its place
+pub record_in : (xs : List ℕ) (j : ℕ) → j < length xs / 8
+    → period_at (get_or (first_chunks 8 (length xs / 8) xs) j []) 0 ≡ period_at xs j
+unfolding period_at
+record_in xs j l = ap (λ b. period_at b 0) (chunk_at (length xs / 8) xs j l) ∙ fields
+  where
+    byte : (k : ℕ) → k < 8 → get_or (take 8 (drop (8 * j) xs)) k 0 ≡ get_or xs (8 * j + k) 0
+    byte k l = get_or-take 8 (drop (8 * j) xs) k 0 l ∙ get_or-drop (8 * j) xs k 0
 
-    pub somebody : set ≢ 0 → somebody_in calendar week ≡ true
-    somebody d =
-        let w = member_of set d in
-        let l : w.0 < 16 = less_on w.0 16 (and_first _ _ (sym (h w.0) ∙ w.1)) in
-        some_mk 16 _ w.0 l (sym (part_in w.0 l) ∙ w.1)
+    first : get_or (take 8 (drop (8 * j) xs)) 0 0 ≡ get_or xs (8 * j) 0
+    first = let e : 8 * j + 0 ≡ 8 * j = omega arith in byte 0 (omega arith) ∙ ap (λ (i : ℕ). get_or xs i 0) e
+
+    fields : period_at (take 8 (drop (8 * j) xs)) 0 ≡ period_at xs j
+    fields =
+        rw (
+          first,
+          byte 1 (omega arith),
+          byte 2 (omega arith),
+          byte 3 (omega arith),
+          byte 4 (omega arith),
+          byte 5 (omega arith),
+          byte 6 (omega arith),
+          byte 7 (omega arith),
+        )

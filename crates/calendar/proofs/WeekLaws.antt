@@ -1,7 +1,8 @@
 -- What an answer says, of any test of who takes part: n is how many do, each of them and nobody else has a number of 1
 -- to n, the two ways are inverse to each other, and sites rise with processes; and no other numbering has all of this.
 -- From the laws of the numbering; that there is no other, by going up the processes.
-use Rattle.std.specs.Prelude.{◌≡◌, Bool, true, List, ◌≢◌, ◌⊎◌, ℕ, zero, suc, ◌+◌, ◌-◌, ◌≤◌, ◌<◌, length, get_or}
+use Rattle.std.specs.Prelude.{◌≡◌, IsOkAnd, Ok, Bool, true, List, ◌≢◌, ◌⊎◌, ℕ, zero, suc, ◌+◌, ◌-◌, ◌≤◌, ◌<◌, length}
+use Rattle.std.specs.Prelude.{get_or}
 use Rattle.std.proofs.Math.Path.{refl, ap}
 use Rattle.std.proofs.Common.{sym, ◌∙◌, inl, inr, ext_get_or}
 use Rattle.std.proofs.Math.Bool.{false}
@@ -13,8 +14,9 @@ use Rattle.sets.specs.Truth.{one_to}
 use Rattle.sets.specs.TruthLaws.{Is, is, on, off, select_on, select_off, same_mk, one_low, one_high, one_mk}
 use Rattle.sets.specs.TruthLaws.{le-or, eq-or, check-zero}
 use Rattle.calendar.specs.declared.Numbering.{Numbering}
-use Rattle.calendar.specs.Calendar.{takes_part_in, sites_to, how_many, process_of_site, site_of_process, numbering_of, week_refusal}
-use Rattle.calendar.specs.Calendar.{answered_by, week_of}
+use Rattle.calendar.specs.Calendar.{takes_part_in, sites_to, how_many, process_of_site, site_of_process, numbering_of}
+use Rattle.calendar.specs.Calendar.{week_refusal}
+use Rattle.calendar.specs.Calendar.{week_of}
 use Rattle.calendar.proofs.NumberingLaws.{length_sites, many_bound, many_on, many_le, Placed, placed}
 use Rattle.calendar.proofs.NumberingLaws.{number_one}
 
@@ -228,22 +230,23 @@ numbering_sixteen takes = record { processes = length-each 16 _; sites = length-
 
 -- so it is of every answer that is not a refusal
 pub week_numbers : (calendar : List ℕ) (week : ℕ) → week_refusal calendar week ≡ 0
-    → Numbers (takes_part_in calendar week) (week_of calendar week).numbering
-unfolding week_of answered_by
+    → IsOkAnd (week_of calendar week) (Numbers (takes_part_in calendar week))
+unfolding week_of
 week_numbers calendar week e =
-    let w : week_of calendar week ≡ answered_by (numbering_of (takes_part_in calendar week)) =
+    let w : week_of calendar week ≡ Ok (numbering_of (takes_part_in calendar week)) =
     select_on _ _ _ (same_mk _ 0 e) in
     rw w (numbering_is (takes_part_in calendar week))
 
 -- and its n is 1 to 16, as a bench asks: a bench of the week opens with any t below n
 pub week_size : (calendar : List ℕ) (week : ℕ) → week_refusal calendar week ≡ 0
-    → one_to 16 (week_of calendar week).numbering.n ≡ true
-unfolding week_refusal
+    → IsOkAnd (week_of calendar week) (λ a. one_to 16 a.n ≡ true)
+unfolding week_of week_refusal
 week_size calendar week e =
     let a = check-zero _ 13 _ (omega arith) e in
     let b = check-zero _ 13 _ (omega arith) a.1 in
     let w = some_on 16 _ (check-zero _ 14 _ (omega arith) b.1).0 in
-    let h = week_numbers calendar week e in
+    let h = numbering_is (takes_part_in calendar week) in
     let p = h.numbered (w.0 + 1) (one_mk 16 (w.0 + 1) (omega arith) (omega (arith, w.1))) w.2 in
-    one_mk 16 _ (omega (arith, one_low _ _ p, one_high _ _ p))
-    (omega (arith, h.many, many_bound (takes_part_in calendar week) 16))
+    let is_ok : week_of calendar week ≡ Ok (numbering_of (takes_part_in calendar week)) =
+    select_on _ _ _ (same_mk _ 0 e) in
+    rw is_ok (one_mk 16 _ (omega (arith, one_low _ _ p, one_high _ _ p)) (n_low (takes_part_in calendar week)))

@@ -1,11 +1,13 @@
 -- The school calendar (request C-14): which sites take part in a week, and how their processes are numbered.
 -- The request says kitchen for site and terminal for process. Sites, and processes, are numbered from 1.
-use Rattle.std.specs.Prelude.{Bool, not, List, [], ◌∷◌, ℕ, ◌+◌, ◌-◌, ◌*◌, ◌/◌, ◌%◌, length, get_or, replicate}
+use Rattle.std.specs.Prelude.{Bool, not, List, [], ◌∷◌, ℕ, ◌+◌, ◌-◌, ◌*◌, ◌/◌, ◌%◌, length, get_or, Result, Ok, Err}
 use Rattle.sets.specs.Lists.{each, joined, every, some_to, count_to}
 use Rattle.sets.specs.Truth.{◌and◌, same, less, one_to, select, check}
-use Rattle.calendar.specs.declared.Period.{Period}
+use Rattle.refusal.specs.declared.Refusal.{Refusal}
+use Rattle.refusal.specs.Numbers.{refused}
+use Rattle.calendar.specs.declared.Kind.{Kind}
+use Rattle.calendar.specs.declared.Kind.TheVariants.{Term, Closed}
 use Rattle.calendar.specs.declared.Numbering.{Numbering}
-use Rattle.calendar.specs.declared.WeekAnswer.{WeekAnswer}
 
 -- ---- records: 8 bytes, no header: site, kind, first day, last day, two zero bytes
 
@@ -17,8 +19,16 @@ pair_of low high = low + high * 256
 unfoldable pub periods_in : List ℕ → ℕ
 periods_in calendar = length calendar / 8
 
--- record j, from 0; `rest` is its last two bytes
-unfoldable pub period_at : List ℕ → ℕ → Period
+-- a record as its bytes say; `rest` is its last two bytes
+pub record Record : Type 0 where
+  pub site : ℕ
+  pub kind : ℕ
+  pub first : ℕ
+  pub last : ℕ
+  pub rest : ℕ
+
+-- record j, from 0
+unfoldable pub period_at : List ℕ → ℕ → Record
 period_at calendar j =
     record {
       site = get_or calendar (8 * j) 0;
@@ -29,37 +39,35 @@ period_at calendar j =
     }
 
 -- the kinds
-abbrev pub term : ℕ
-term = 1
-
-abbrev pub closed : ℕ
-closed = 2
+abbrev pub kind_number : Kind → ℕ
+kind_number Term = 1
+kind_number Closed = 2
 
 -- a site 1 to 16, a kind 1 or 2, first day not after last, last bytes zero
-unfoldable pub well_formed : Period → Bool
+unfoldable pub well_formed : Record → Bool
 well_formed p = one_to 16 p.site and (one_to 2 p.kind and (not (less p.last p.first) and same p.rest 0))
 
 -- ---- days
 
 -- a record of its own: of this kind, for this site
-unfoldable pub own_of : ℕ → ℕ → Period → Bool
-own_of kind site p = same p.kind kind and same p.site site
+unfoldable pub own_of : Kind → ℕ → Record → Bool
+own_of kind site p = same p.kind (kind_number kind) and same p.site site
 
 -- the day lies in the record: first and last day both count
-unfoldable pub lies : ℕ → Period → Bool
+unfoldable pub lies : ℕ → Record → Bool
 lies day p = not (less day p.first) and not (less p.last day)
 
 -- both: the day lies in a record of its own
-abbrev pub has_day : ℕ → ℕ → ℕ → Period → Bool
+abbrev pub has_day : Kind → ℕ → ℕ → Record → Bool
 has_day kind site day p = own_of kind site p and lies day p
 
 -- some record of the calendar is such a one
-unfoldable pub lies_in : List ℕ → ℕ → ℕ → ℕ → Bool
+unfoldable pub lies_in : List ℕ → Kind → ℕ → ℕ → Bool
 lies_in calendar kind site day = some_to (periods_in calendar) (λ j. has_day kind site day (period_at calendar j))
 
 -- open on a day: in a term record of its own and in no closed record of its own
 unfoldable pub open_on : List ℕ → ℕ → ℕ → Bool
-open_on calendar site day = lies_in calendar term site day and not (lies_in calendar closed site day)
+open_on calendar site day = lies_in calendar Term site day and not (lies_in calendar Closed site day)
 
 -- day i of a week, where Monday is 0: day 0 is a Monday, and week w is days 7 w to 7 w + 6. No bound of 16 bits.
 abbrev pub day_of : ℕ → ℕ → ℕ
@@ -96,9 +104,6 @@ numbering_of takes =
       site_of = each 16 (λ i. site_of_process takes (i + 1));
     }
 
-unfoldable pub no_numbering : Numbering
-no_numbering = record { n = 0; process_of = replicate 16 0; site_of = replicate 16 0 }
-
 -- ---- the call
 
 -- no partial record
@@ -120,15 +125,9 @@ week_refusal calendar week =
     (check (all_well_formed calendar) 13
     (check (somebody_in calendar week) 14 0))
 
--- all of the numbering is 0
-unfoldable pub refused_by : ℕ → WeekAnswer
-refused_by number = record { answer = number; numbering = no_numbering }
-
-unfoldable pub answered_by : Numbering → WeekAnswer
-answered_by numbering = record { answer = 0; numbering = numbering }
-
-unfoldable pub week_of : List ℕ → ℕ → WeekAnswer
+-- the numbering, or the refusal
+unfoldable pub week_of : List ℕ → ℕ → Result Numbering Refusal
 week_of calendar week =
     select (same (week_refusal calendar week) 0)
-    (answered_by (numbering_of (takes_part_in calendar week)))
-    (refused_by (week_refusal calendar week))
+    (Ok (numbering_of (takes_part_in calendar week)))
+    (Err (refused (week_refusal calendar week)))

@@ -1,24 +1,93 @@
 // The school calendar (request C-14): which sites take part in a week, and how their processes are numbered.
 #![tactic(auto)]
 
-ghost use Rattle.std.specs.Prelude.{◌≡◌, true, ℕ, ◌+◌, ◌-◌, ◌/◌, ◌<◌, ◌≤◌, min, length};
+ghost use Rattle.std.specs.Prelude.{◌≡◌, ℕ, ◌+◌, ◌-◌, min};
 ghost use Rattle.sets.specs.Set.{has};
-ghost use Rattle.sets.specs.Truth.{◌and◌, less};
-ghost use Rattle.calendar.specs.Calendar.{pair_of, periods_in, period_at, well_formed, all_well_formed};
-ghost use Rattle.calendar.specs.Calendar.{lies, numbering_of, refused_by, week_of};
-ghost use Rattle.calendar.specs.NumberingLaws.{in_set};
-ghost use Rattle.calendar.specs.PassLaws.{slot_of, Marked, Collected, some_day};
+ghost use Rattle.sets.specs.Truth.{◌and◌, less, one_to};
+ghost use Rattle.calendar.specs.Calendar.{period_at, lies, numbering_of, week_of};
+ghost use Rattle.calendar.specs.PassLaws.{DecodesKind, DecodesRecord, record_of, with_days, MarksAll};
+ghost use Rattle.calendar.specs.PassLaws.{some_day, open_in};
 
-use sets::{difference, member, one_to};
+use refusal::Refusal;
+use sets::{all, difference, union};
 
-// A record: the days on which a site has term (kind 1) or is closed (kind 2). The last two bytes are to be 0.
+// What a record says of its site.
 #[derive(Clone, Copy)]
-pub struct Period {
-    pub site: u8,
-    pub kind: u8,
-    pub first: u16,
-    pub last: u16,
-    pub rest: u16,
+enum Kind {
+    Term,
+    Closed,
+}
+
+impl TryFrom<u8> for Kind {
+    type Error = Refusal;
+
+    ghost try_from_gives = { DecodesKind };
+
+    fn try_from(number: u8) -> Result<Self, Refusal> {
+        // Without a jump by the kind, as a `match` makes one: kinds come in any order.
+        if !(1..=2).contains(&number) {
+            return Err(Refusal::Calendar);
+        }
+        Ok(if number == 1 {
+            Kind::Term
+        } else {
+            Kind::Closed
+        })
+    }
+}
+
+// A well-formed record: the days on which a site has term or is closed, the first and the last with them.
+#[derive(Clone, Copy)]
+struct Period {
+    site: u8,
+    kind: Kind,
+    first: u16,
+    last: u16,
+}
+
+impl TryFrom<[u8; 8]> for Period {
+    type Error = Refusal;
+
+    ghost try_from_gives = { λ bytes r. DecodesRecord (period_at bytes 0) r };
+
+    fn try_from(bytes: [u8; 8]) -> Result<Self, Refusal> {
+        let site = bytes[0];
+        let kind = Kind::try_from(bytes[1])?;
+        let first = u16::from_le_bytes([bytes[2], bytes[3]]);
+        let last = u16::from_le_bytes([bytes[4], bytes[5]]);
+        let rest = u16::from_le_bytes([bytes[6], bytes[7]]);
+        if !(1..=16).contains(&site) || last < first || rest != 0 {
+            return Err(Refusal::Calendar);
+        }
+        Ok(Period {
+            site,
+            kind,
+            first,
+            last,
+        })
+    }
+}
+
+// How many of Monday to Friday come before a day. Without a jump: `saturating_sub` and `min` in a row make one.
+fn weekdays_before(monday: u32, day: u32) -> usize
+    ensures { result ≡ min (day - monday) 5 }
+{
+    if day <= monday {
+        0
+    } else {
+        (day - monday).min(5) as usize
+    }
+}
+
+impl Period {
+    // Those of Monday to Friday that lie in it.
+    fn weekdays(self, monday: u32) -> u16
+        ensures { (i : ℕ) → has result i ≡ (less i 5 and lies (monday + i) (record_of self)) }
+    {
+        let until = weekdays_before(monday, self.last as u32 + 1);
+        let from = weekdays_before(monday, self.first as u32);
+        difference(all(until), all(from))
+    }
 }
 
 // How many sites take part, the process of each site and the site of each process; 0 for none.
@@ -30,171 +99,81 @@ pub struct Numbering {
     pub site_of: [u8; 16],
 }
 
-// 0, or the number of the refusal, with all of the numbering 0.
-#[derive(Clone, Copy)]
-pub struct WeekAnswer {
-    pub answer: u8,
-    pub numbering: Numbering,
-}
-
-// Monday to Friday of one week, as a set for each kind and site: of kind k and site s at 16 (k - 1) + s - 1.
+// Of one site, as sets: those of Monday to Friday of a week that lie in its records of each kind.
 #[derive(Clone, Copy)]
 struct Marks {
-    valid: bool,
-    days: [u16; 32],
+    term: u16,
+    closed: u16,
 }
 
-fn pair(low: u8, high: u8) -> u16
-    ensures { result ≡ pair_of low high }
-{
-    (low as u16) + (high as u16) * 256
-}
-
-// Record j, from 0.
-fn period_at(calendar: &[u8], j: usize) -> Period
-    requires { j < length calendar.now / 8 }
-    ensures { result ≡ period_at calendar.now j }
-{
-    let at = 8 * j;
-    Period {
-        site: calendar[at],
-        kind: calendar[at + 1],
-        first: pair(calendar[at + 2], calendar[at + 3]),
-        last: pair(calendar[at + 4], calendar[at + 5]),
-        rest: pair(calendar[at + 6], calendar[at + 7]),
+impl Marks {
+    fn with(self, kind: Kind, days: u16) -> Self
+        ensures { result ≡ with_days self kind days }
+    {
+        match kind {
+            Kind::Term => Marks {
+                term: union(self.term, days),
+                closed: self.closed,
+            },
+            Kind::Closed => Marks {
+                term: self.term,
+                closed: union(self.closed, days),
+            },
+        }
     }
-}
 
-fn well_formed(p: Period) -> bool
-    ensures { result ≡ well_formed p }
-{
-    one_to(16, p.site) & (one_to(2, p.kind) & ((p.first <= p.last) & (p.rest == 0)))
-}
-
-// How many of Monday to Friday come before a day.
-fn weekdays_before(monday: u32, day: u32) -> usize
-    requires { monday ≤ 458745 }
-    ensures { result ≡ min (day - monday) 5 }
-{
-    if day <= monday {
-        0
-    } else if monday + 5 <= day {
-        5
-    } else {
-        (day - monday) as usize
+    // A day of term that is not closed.
+    fn has_open_day(self) -> bool
+        ensures { result ≡ some_day self }
+    {
+        difference(self.term, self.closed) != 0
     }
-}
-
-// Those of Monday to Friday that lie in the record.
-fn weekdays_in(monday: u32, p: Period) -> u16
-    requires { monday ≤ 458745 }
-    ensures { (i : ℕ) → has result i ≡ (less i 5 and lies (monday + i) p) }
-{
-    let until = weekdays_before(monday, p.last as u32 + 1);
-    let from = weekdays_before(monday, p.first as u32);
-    difference(sets::all(until), sets::all(from))
-}
-
-// Where the days of the record's kind and site are kept.
-fn slot_of(p: Period) -> usize
-    requires { well_formed p ≡ true }
-    ensures { (result ≡ slot_of p.kind p.site) × (result < 32) }
-{
-    16 * (p.kind - 1) as usize + (p.site - 1) as usize
 }
 
 // The one pass over the records. It stops at one that is not well formed.
-fn mark_days(calendar: &[u8], monday: u32) -> Marks
-    requires { monday ≤ 458745 }
-    ensures valid_value { result.valid ≡ all_well_formed calendar.now }
-    ensures marked { result.valid ≡ true
-        → Marked calendar.now monday (periods_in calendar.now) result.days }
+fn mark_days(calendar: &[u8], monday: u32) -> Result<[Marks; 16], Refusal>
+    ensures { MarksAll calendar.now monday result }
 {
-    let mut days: [u16; 32] = [0; 32];
-    let records = calendar.len() / 8;
-    let mut j = 0;
-    while j < records {
-        let p = period_at(calendar, j);
-        if !well_formed(p) {
-            return Marks { valid: false, days };
-        }
-        let slot = slot_of(p);
-        days[slot] = sets::union(days[slot], weekdays_in(monday, p));
-        j += 1;
+    let (records, rest) = calendar.as_chunks::<8>();
+    if !rest.is_empty() {
+        return Err(Refusal::Calendar);
     }
-    Marks { valid: true, days }
+    let mut sites = [Marks { term: 0, closed: 0 }; 16];
+    for record in records {
+        let period = Period::try_from(*record)?;
+        let marks = &mut sites[period.site as usize - 1];
+        *marks = marks.with(period.kind, period.weekdays(monday));
+    }
+    Ok(sites)
 }
 
-// The sites with a day of term that is not closed.
-fn taking_part(days: [u16; 32]) -> u16
-    ensures { Collected (some_day days) 16 result }
+// The numbering of the sites with a day of term that is not closed, in rising number.
+fn numbered(sites: &[Marks; 16]) -> Numbering
+    ensures { result ≡ numbering_of (open_in sites.now) }
 {
-    let mut set: u16 = 0;
-    let mut i = 0;
-    while i < 16 {
-        if difference(days[i], days[i + 16]) != 0 {
-            set = sets::insert(set, i);
+    let mut numbering = Numbering {
+        n: 0,
+        process_of: [0; 16],
+        site_of: [0; 16],
+    };
+    for (i, marks) in sites.iter().enumerate() {
+        if marks.has_open_day() {
+            numbering.site_of[numbering.n as usize] = i as u8 + 1;
+            numbering.n += 1;
+            numbering.process_of[i] = numbering.n;
         }
-        i += 1;
     }
-    set
-}
-
-// The numbering of a set of sites, site s at bit s - 1, in rising number.
-fn numbered(set: u16) -> Numbering
-    ensures { result ≡ numbering_of (in_set set) }
-{
-    let mut process_of: [u8; 16] = [0; 16];
-    let mut site_of: [u8; 16] = [0; 16];
-    let mut n = 0;
-    let mut i = 0;
-    while i < 16 {
-        let site = i + 1;
-        if member(set, site - 1) {
-            site_of[n] = site as u8;
-            n += 1;
-            process_of[site - 1] = n as u8;
-        }
-        i += 1;
-    }
-    Numbering {
-        n: n as u8,
-        process_of,
-        site_of,
-    }
-}
-
-fn refused(number: u8) -> WeekAnswer
-    ensures { result ≡ refused_by number }
-{
-    WeekAnswer {
-        answer: number,
-        numbering: Numbering {
-            n: 0,
-            process_of: [0; 16],
-            site_of: [0; 16],
-        },
-    }
+    numbering
 }
 
 // Which sites take part in a week, and their numbering.
-pub fn week(calendar: &[u8], week: u16) -> WeekAnswer
+pub fn week(calendar: &[u8], week: u16) -> Result<Numbering, Refusal>
     ensures { result ≡ week_of calendar.now week }
 {
-    if calendar.len() % 8 != 0 {
-        return refused(13);
+    let sites = mark_days(calendar, 7 * week as u32)?;
+    let numbering = numbered(&sites);
+    if numbering.n == 0 {
+        return Err(Refusal::NoSite);
     }
-    let marks = mark_days(calendar, 7 * week as u32);
-    if !marks.valid {
-        return refused(13);
-    }
-    let days = marks.days;
-    let set = taking_part(days);
-    if set == 0 {
-        return refused(14);
-    }
-    WeekAnswer {
-        answer: 0,
-        numbering: numbered(set),
-    }
+    Ok(numbering)
 }

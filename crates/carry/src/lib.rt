@@ -2,15 +2,15 @@
 #![tactic(auto)]
 
 ghost use Rattle.std.specs.Prelude.{◌≡◌, true};
-ghost use Rattle.sets.specs.Lists.{every_in};
-ghost use Rattle.sets.specs.Truth.{less, select, check};
+ghost use Rattle.sets.specs.Truth.{less, select};
 ghost use Rattle.bench.specs.Calls.{answer_of};
-ghost use Rattle.bench.specs.Carry.{plain_data, plain_process, carry_of};
+ghost use Rattle.bench.specs.Carry.{plain_data, plain_bench, carry_refusal, carry_of};
 
-use bench::{Answer, Bench, Carried, Refusal};
+use bench::{Bench, Carried};
 use global_data::GlobalData;
-use process::Process;
-use soundness::is_sound;
+use refusal::Refusal;
+use sets::member;
+use soundness::{all_pass, ensure_sound};
 
 // Whether a word has no high half; under an absent entry it does not count. No branch, so that the loop over the
 // words has none.
@@ -21,69 +21,41 @@ fn word_plain(present: bool, word: u32) -> bool
 }
 
 // All sixteen entries count, used or not.
-fn data_plain(g: GlobalData) -> bool
-    ensures { result ≡ plain_data g }
+fn data_plain(g: &GlobalData) -> bool
+    ensures { result ≡ plain_data g.now }
 {
-    let present = g.present;
     let mut ok = true;
-    let mut k = 0;
-    while k < 16 {
-        ok = word_plain(sets::member(present, k), g.values[k]) & ok;
-        k += 1;
+    for (k, word) in g.values.iter().enumerate() {
+        ok = ok & word_plain(member(g.present, k), *word);
     }
     ok
 }
 
-fn processes_plain(processes: [Process; 16]) -> bool
-    ensures { result ≡ every_in plain_process processes }
+// Every estimate and every row of what was sent counts, used or not.
+fn is_plain(b: &Bench) -> bool
+    ensures { result ≡ plain_bench b.now }
 {
-    let mut ok = true;
-    let mut k = 0;
-    while k < 16 {
-        let p = processes[k];
-        let estimate = p.estimate;
-        ok = ok & data_plain(estimate);
-        k += 1;
-    }
-    ok
-}
-
-fn rows_plain(rows: [GlobalData; 256]) -> bool
-    ensures { result ≡ every_in plain_data rows }
-{
-    let mut ok = true;
-    let mut k = 0;
-    while k < 256 {
-        let g = rows[k];
-        ok = ok & data_plain(g);
-        k += 1;
-    }
-    ok
+    all_pass(&b.processes, |p| data_plain(&p.estimate)) & all_pass(&b.sent, data_plain)
 }
 
 // The first check that fails is the answer.
-fn answer_by(sound: bool, plain: bool) -> Answer
-    ensures { result ≡ answer_of (check sound 2 (check plain 16 0)) }
+fn checked(b: &Bench) -> Result<(), Refusal>
+    ensures { result ≡ answer_of (carry_refusal b.now) }
 {
-    if !sound {
-        return Answer::Refused(Refusal { number: 2 });
+    ensure_sound(b)?;
+    if is_plain(b) {
+        Ok(())
+    } else {
+        Err(Refusal::LargeValue)
     }
-    if !plain {
-        return Answer::Refused(Refusal { number: 16 });
-    }
-    Answer::Accepted
 }
 
 // The words of a bench that is not refused are its words in the new form.
 pub fn carry(b: Bench) -> Carried
     ensures { result ≡ carry_of b }
 {
-    let sound = is_sound(b);
-    let processes = b.processes;
-    let rows = b.sent;
-    let plain = processes_plain(processes) & rows_plain(rows);
     Carried {
-        answer: answer_by(sound, plain),
+        answer: checked(&b),
         bench: b,
     }
 }

@@ -1,40 +1,46 @@
 // A line of the table: a first letter, which names a call, and the call's numbers. Other text is for the reader alone.
+ghost use Rattle.std.specs.Prelude.{◌≤◌};
 
 // What is read of a line so far: its letter, its numbers, how many of them have ended, and whether the next has begun.
 #[derive(Clone, Copy)]
 pub struct Line {
-    pub letter: u8,
+    pub letter: Option<u8>,
     pub numbers: [u8; 128],
-    pub count: usize,
-    pub inside: bool,
+    count: usize,
+    is_inside: bool,
+    ghost few: { count ≤ 128 },
 }
 
-// The line with one more character. There are at most 128 numbers, each below 240.
-pub fn fed(line: Line, c: u8) -> Line {
-    let mut l = line;
-    let at = l.count % 128;
-    if (48 <= c) & (c < 58) {
-        l.numbers[at] = l.numbers[at] % 24 * 10 + c % 16;
-        l.inside = true;
-        return l;
+impl Line {
+    // Nothing is read yet.
+    pub fn new() -> Line {
+        Line {
+            letter: None,
+            numbers: [0; 128],
+            count: 0,
+            is_inside: false,
+        }
     }
-    if l.inside {
-        l.count = at + 1;
-        l.inside = false;
-    }
-    if l.letter == 0 {
-        l.letter = c;
-    }
-    l
-}
 
-// The numbers after the first, where there are `count`.
-pub fn rest(numbers: &[u8], count: usize) -> &[u8] {
-    if count == 0 {
-        return &numbers[..0];
+    // Takes one more character. There are at most 128 numbers, each below 240; one after them is the first again.
+    pub fn feed(&mut self, c: u8) {
+        let at = self.count % 128;
+        if c.is_ascii_digit() {
+            self.numbers[at] = self.numbers[at] % 24 * 10 + (c - b'0');
+            self.is_inside = true;
+            return;
+        }
+        if self.is_inside {
+            self.count = at + 1;
+            self.is_inside = false;
+        }
+        if self.letter.is_none() && c != 0 {
+            self.letter = Some(c);
+        }
     }
-    if numbers.len() < count {
-        return &numbers[..0];
+
+    // The numbers after the first `skipped`.
+    pub fn after(&self, skipped: usize) -> &[u8] {
+        self.numbers.get(skipped..self.count).unwrap_or(&[])
     }
-    &numbers[1..count]
 }

@@ -5,43 +5,30 @@
 mod calls;
 mod line;
 
-use crate::calls::answer;
-use crate::line::{Line, fed};
-use bench::Bench;
+use crate::calls::{answer, closed};
+use crate::line::Line;
 use reading::read_full;
 use std::io;
 use std::io::Write;
 
 // Each call is made on the bench that the lines before it left.
-fn lines(rt: HostRuntime, text: &[u8]) -> io::Result<()> {
-    let none = Line {
-        letter: 0,
-        numbers: [0; 128],
-        count: 0,
-        inside: false,
-    };
-    let opened = Bench::open(0, 0);
-    let mut b = opened.bench;
-    let mut line = none;
-    let mut i: usize = 0;
-    while i < text.len() {
-        let c = text[i];
-        let next = fed(line, c);
-        line = next;
+fn lines(rt: &impl Print, text: &[u8]) -> io::Result<()> {
+    let mut bench = closed();
+    let mut line = Line::new();
+    for &c in text {
+        line.feed(c);
         if c == b'\n' {
-            let after = answer(rt, b, next)?;
-            b = after;
-            line = none;
+            answer(rt, &mut bench, &line)?;
+            line = Line::new();
         }
-        rt.stdout().write_all(&[c])?;
-        i += 1;
+        io::writer(rt).write_all(&[c])?;
     }
     Ok(())
 }
 
 // The table is shorter than the buffer.
 fn main(rt: HostRuntime) -> io::Result<()> {
-    let mut text = [0u8; 16384];
+    let mut text = [0; 16384];
     let read = read_full(&mut rt.stdin(), &mut text)?;
-    lines(rt, &text[..read])
+    lines(&rt, &text[..read])
 }

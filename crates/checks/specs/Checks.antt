@@ -8,32 +8,32 @@ use Rattle.process.specs.declared.Process.{Process}
 use Rattle.process.specs.Steps.{has_decided, takes_part, due_of}
 
 -- the number of the first check that fails, or 0
-unfoldable pub first_failed : Bool → Bool → Bool → Bool → ℕ
+abbrev pub first_failed : Bool → Bool → Bool → Bool → ℕ
 first_failed crashed passes7 passes8 passes9 =
     check (not crashed) 6 (check passes7 7 (check passes8 8 (check passes9 9 0)))
 
 -- a start of a, in that round
-unfoldable pub start_check : ℕ → ℕ → ℕ → ℕ
+abbrev pub start_check : ℕ → ℕ → ℕ → ℕ
 start_check crashed a round = first_failed (has crashed a) (same round 0) true true
 
 -- a acts on a message for b: b is in the set m of those to whom it is owed, or is on its way
-unfoldable pub message_check : ℕ → ℕ → ℕ → ℕ → ℕ
+abbrev pub message_check : ℕ → ℕ → ℕ → ℕ → ℕ
 message_check crashed a m b = first_failed (has crashed a) (has m b) true true
 
-unfoldable pub close_check : ℕ → ℕ → Process → ℕ
+abbrev pub close_check : ℕ → ℕ → Process → ℕ
 close_check crashed a p = first_failed (has crashed a) (takes_part p and same p.outbox empty_set) (due_of a p) true
 
-unfoldable pub crash_check : ℕ → ℕ → ℕ → ℕ
+abbrev pub crash_check : ℕ → ℕ → ℕ → ℕ
 crash_check crashed a t = first_failed (has crashed a) true true (less (size_of crashed) t)
 
 -- a, which suspects those in m, is to suspect b
-unfoldable pub suspect_check : ℕ → ℕ → ℕ → ℕ → ℕ
+abbrev pub suspect_check : ℕ → ℕ → ℕ → ℕ → ℕ
 suspect_check crashed a m b = first_failed (has crashed a) (has crashed b and not (has m b)) true true
 
 -- what passes 6 and 7 is up to what is checked after them
 pub first_possible : (crashed passes7 passes8 passes9 : Bool) → (passes7 and not crashed) ≡ true
     → first_failed crashed passes7 passes8 passes9 ≡ first_failed false true passes8 passes9
-unfolding first_failed check select ◌and◌
+unfolding check select ◌and◌
 first_possible true true passes8 passes9 e = clash false e refl
 first_possible true false passes8 passes9 e = clash false e refl
 first_possible false true passes8 passes9 e = refl
@@ -42,7 +42,7 @@ first_possible false false passes8 passes9 e = clash false e refl
 -- what fails one of them does so whatever is checked after it
 pub first_impossible : (crashed passes7 passes8 passes9 : Bool) → (passes7 and not crashed) ≡ false
     → first_failed crashed passes7 passes8 passes9 ≡ first_failed crashed false false true
-unfolding first_failed check select ◌and◌
+unfolding check select ◌and◌
 first_impossible true passes7 passes8 passes9 e = refl
 first_impossible false true passes8 passes9 e = clash true refl e
 first_impossible false false passes8 passes9 e = refl

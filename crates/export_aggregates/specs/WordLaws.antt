@@ -1,13 +1,13 @@
--- What a call gives and leaves in the lent word, by its answer.
-use Rattle.std.specs.Prelude.{◌≡◌, refl, ℕ}
-use Rattle.aggregates.specs.Answers.{Answer, refused, gives}
+-- What is stored where a call's answer is mapped to the word first.
+use Rattle.std.specs.Prelude.{◌≡◌, refl, Ok, Err, MatchResult, IsOkAnd, ℕ}
+use Rattle.std.proofs.Common.{◌∙◌}
+use Rattle.aggregates.specs.Answers.{Answer}
 use Rattle.export_aggregates.specs.Words.{refusal_in, word_in}
 
-module _ {A B : Type 0} (f : A → B) (old : B) where
-  pub gives-word : {a : A} {b : Answer A} → gives a ≡ b → (0 ≡ refusal_in b) × (f a ≡ word_in f b old)
-  unfolding refusal_in word_in
-  gives-word e = rw (← e) (refl, refl)
-
-  pub refused-word : {k : ℕ} {b : Answer A} → refused k ≡ b → (k ≡ refusal_in b) × (old ≡ word_in f b old)
-  unfolding refusal_in word_in
-  refused-word e = rw (← e) (refl, refl)
+pub mapped : {A B : Type 0} (f : A → B) (a : Answer A) (r : Answer B) (old : B)
+    → MatchResult a (λ x. IsOkAnd r (λ y. y ≡ f x)) (λ e. r ≡ Err e)
+    → (refusal_in r ≡ refusal_in a) × (word_in (λ v. v) r old ≡ word_in f a old)
+unfolding refusal_in word_in
+mapped f (Ok x) (Ok y) old h = (refl, h)
+mapped f (Ok x) (Err e) old h = absurd h
+mapped f (Err d) r old h = rw h (refl, refl)

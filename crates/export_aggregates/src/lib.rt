@@ -7,7 +7,21 @@ ghost use Rattle.aggregates.specs.Aggregates.{total_of, go_of, lead_of, change_o
 ghost use Rattle.sets.specs.Truth.{bit};
 ghost use Rattle.export_aggregates.specs.Words.{refusal_in, word_in};
 
-use aggregates::{ChangeAnswer, GoAnswer, LeadAnswer, TotalAnswer};
+use refusal::Refusal;
+
+// Writes what is given into the lent word. 0, or the number of the refusal.
+#[tactic(auto, unfolding(crate::specs::Words::refusal_in, crate::specs::Words::word_in))]
+fn put<T: Drop>(answer: Result<T, Refusal>, word: &mut T) -> u32
+    ensures { (result ≡ refusal_in answer) × (word.new ≡ word_in (λ v. v) answer word.old) }
+{
+    match answer {
+        Ok(given) => {
+            *word = given;
+            0
+        }
+        Err(refusal) => u32::from(refusal.number()),
+    }
+}
 
 #[unsafe(no_mangle)]
 pub extern "C" fn gerzulan_total(
@@ -21,13 +35,7 @@ pub extern "C" fn gerzulan_total(
         × (sum.new
         ≡ word_in (λ v. v) (total_of n entries.now marks standing.now) sum.old) }
 {
-    match aggregates::total(n, entries, marks, standing) {
-        TotalAnswer::Total(v) => {
-            *sum = v;
-            0
-        }
-        TotalAnswer::Refused(r) => r.number as u32,
-    }
+    put(aggregates::total(n, entries, marks, standing), sum)
 }
 
 // 1 for go, else 0.
@@ -36,13 +44,7 @@ pub extern "C" fn gerzulan_go(n: u8, entries: &[u32], marks: u16, go: &mut u8) -
     ensures { (result ≡ refusal_in (go_of n entries.now marks))
         × (go.new ≡ word_in bit (go_of n entries.now marks) go.old) }
 {
-    match aggregates::go(n, entries, marks) {
-        GoAnswer::Go(yes) => {
-            *go = if yes { 1 } else { 0 };
-            0
-        }
-        GoAnswer::Refused(r) => r.number as u32,
-    }
+    put(aggregates::go(n, entries, marks).map(u8::from), go)
 }
 
 // The process and its portions.
@@ -60,17 +62,9 @@ pub extern "C" fn gerzulan_lead(
         × (value.new
         ≡ word_in (λ c. c.portions) (lead_of n entries.now marks) value.old) }
 {
-    match aggregates::lead(n, entries, marks) {
-        LeadAnswer::Lead {
-            process: p,
-            portions: v,
-        } => {
-            *process = p;
-            *value = v as u32;
-            0
-        }
-        LeadAnswer::Refused(r) => r.number as u32,
-    }
+    let lead = aggregates::lead(n, entries, marks);
+    put(lead.map(|c| u32::from(c.portions)), value);
+    put(lead.map(|c| c.process), process)
 }
 
 #[unsafe(no_mangle)]
@@ -86,11 +80,6 @@ pub extern "C" fn gerzulan_change(
         × (difference.new
         ≡ word_in (λ z. z) (change_of n entries.now marks process standing) difference.old) }
 {
-    match aggregates::change(n, entries, marks, process, standing) {
-        ChangeAnswer::Difference(z) => {
-            *difference = z;
-            0
-        }
-        ChangeAnswer::Refused(r) => r.number as u32,
-    }
+    let answer = aggregates::change(n, entries, marks, process, standing);
+    put(answer, difference)
 }

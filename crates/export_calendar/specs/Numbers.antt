@@ -1,19 +1,15 @@
 -- What the exported call of the calendar gives: a number, and the numbering that the host lends after the call.
-use Rattle.std.specs.Prelude.{List, ℕ}
-use Rattle.sets.specs.Truth.{same, select}
+use Rattle.std.specs.Prelude.{ℕ, Result, Ok, Err}
+use Rattle.refusal.specs.declared.Refusal.{Refusal}
+use Rattle.refusal.specs.Numbers.{refusal_number}
 use Rattle.calendar.specs.declared.Numbering.{Numbering}
-use Rattle.calendar.specs.declared.WeekAnswer.{WeekAnswer}
-use Rattle.calendar.specs.Calendar.{week_of}
-use Rattle.export_calendar.specs.declared.HostWeek.{HostWeek}
+
+-- 0, or the number of the refusal
+abbrev pub number_in : Result Numbering Refusal → ℕ
+number_in (Ok numbering) = 0
+number_in (Err refusal) = refusal_number refusal
 
 -- a refusal leaves what was there
-unfoldable pub numbering_in : WeekAnswer → Numbering → Numbering
-numbering_in a old = select (same a.answer 0) a.numbering old
-
--- with the host's numbering by value
-unfoldable pub host_week_of : List ℕ → ℕ → Numbering → HostWeek
-host_week_of calendar week old =
-    record {
-      numbering = numbering_in (week_of calendar week) old;
-      number = (week_of calendar week).answer;
-    }
+abbrev pub numbering_in : Result Numbering Refusal → Numbering → Numbering
+numbering_in (Ok numbering) old = numbering
+numbering_in (Err refusal) old = old

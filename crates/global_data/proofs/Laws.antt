@@ -1,8 +1,10 @@
 -- Laws of the global data: each entry after filling, where a filled entry comes from, and what it is to be the same.
 -- An entry is read by its present bit, and every law goes by whether that bit is set.
-use Rattle.std.specs.Prelude.{◌≡◌, refl, ◌⊎◌, Bool, not, List, length, get_or, set, replicate}
+use Rattle.std.specs.Prelude.{◌≡◌, refl, ◌⊎◌, Bool, not, None, Some, List, length, get_or, set, replicate}
 use Rattle.std.proofs.Math.Path.{sym}
-use Rattle.std.proofs.Common.{ap, ap₂, ◌∙◌, inl, inr, ⊎_elim, arith, length-set, get_or-set_same, get_or-set_other}
+use Rattle.std.proofs.Common.{ap, ◌∙◌, inl, inr, ⊎_elim, arith, length-set, get_or-set_same, get_or-set_other}
+use Rattle.std.specs.Option.{option_or}
+use Rattle.std.proofs.lemmas.Option.{same_Some}
 use Rattle.std.proofs.Math.Bool.{true, false}
 use Prim.Native.Nat.{ℕ, zero, suc, ◌+◌, ◌-◌, ◌^◌, ◌≤◌, ◌<◌}
 use Rattle.sets.specs.EachLaws.{length-each, get_or_each, each-get_or, each_cong}
@@ -17,50 +19,50 @@ use Rattle.sets.specs.TruthLaws.{Is, on, off, is, clash, by_both, select_on}
 use Rattle.sets.specs.TruthLaws.{select_off, or_off_r, or_mk_l, or_mk_r, and_first, and_second, and_mk, and_on_l}
 use Rattle.sets.specs.TruthLaws.{eq-or}
 use Rattle.sets.specs.TruthLaws.{and_on_r, and_off_r, off_by, less_on, less_mk}
-use Rattle.global_data.specs.declared.Entry.{Entry}
-use Rattle.global_data.specs.declared.Entry.TheVariants.{Absent, Value}
-use Rattle.global_data.specs.GlobalData.{value_in, entry_by, entry_of, same_entry, nothing_of, one_of}
+use Rattle.global_data.specs.declared.Value.{Value}
+use Rattle.global_data.specs.GlobalData.{Entry, value_in, entry_by, entry_of, same_entry, nothing_of, one_of}
 use Rattle.global_data.specs.GlobalData.{filled_word, fill_of, fill_from, same_to, all_same}
 use Rattle.global_data.specs.WordLaws.{value_word}
 use Rattle.global_data.specs.declared.GlobalData.{GlobalData}
 
 -- ---- entries
-pub entry_present : (g : GlobalData) (k : ℕ) → has g.present k ≡ true → entry_of g k ≡ value_in (get_or g.values k 0)
+pub entry_present : (g : GlobalData) (k : ℕ) → has g.present k ≡ true
+    → entry_of g k ≡ Some (value_in (get_or g.values k 0))
 unfolding entry_of
-entry_present g k e = select_on (has g.present k) (value_in (get_or g.values k 0)) Absent e
+entry_present g k e = select_on (has g.present k) (Some (value_in (get_or g.values k 0))) None e
 
-pub entry_absent : (g : GlobalData) (k : ℕ) → has g.present k ≡ false → entry_of g k ≡ Absent
+pub entry_absent : (g : GlobalData) (k : ℕ) → has g.present k ≡ false → entry_of g k ≡ None
 unfolding entry_of
-entry_absent g k e = select_off (has g.present k) (value_in (get_or g.values k 0)) Absent e
+entry_absent g k e = select_off (has g.present k) (Some (value_in (get_or g.values k 0))) None e
 
 -- an entry is not absent and a value
-pub not_both : {A : Type 0} (e : Entry) (p d : ℕ) → e ≡ Absent → e ≡ Value p d → A
-not_both e p d f g = let z : ◌≡◌ {A = ℕ} 0 1 = cc in absurd (omega arith)
+pub not_both : {A : Type 0} (e : Entry) (v : Value) → e ≡ None → e ≡ Some v → A
+not_both e v f g = cc
 
-pub value_present : (g : GlobalData) (k p d : ℕ) → entry_of g k ≡ Value p d → has g.present k ≡ true
-value_present g k p d e = go (is (has g.present k))
+pub value_present : (g : GlobalData) (k : ℕ) (v : Value) → entry_of g k ≡ Some v → has g.present k ≡ true
+value_present g k v e = go (is (has g.present k))
   where
     go : Is (has g.present k) → has g.present k ≡ true
     go (on t) = t
-    go (off f) = not_both (entry_of g k) p d (entry_absent g k f) e
+    go (off f) = not_both (entry_of g k) v (entry_absent g k f) e
 
-pub absent_clear : (g : GlobalData) (k : ℕ) → entry_of g k ≡ Absent → has g.present k ≡ false
+pub absent_clear : (g : GlobalData) (k : ℕ) → entry_of g k ≡ None → has g.present k ≡ false
 absent_clear g k e = go (is (has g.present k))
   where
     go : Is (has g.present k) → has g.present k ≡ false
-    go (on t) = not_both (entry_of g k) _ _ e (entry_present g k t)
+    go (on t) = not_both (entry_of g k) _ e (entry_present g k t)
     go (off f) = f
 
 -- an entry is absent or the value in a word, with the equation kept
-pub absent_or : (g : GlobalData) (k : ℕ) → (entry_of g k ≡ Absent) ⊎ ((v : ℕ) × (entry_of g k ≡ value_in v))
+pub absent_or : (g : GlobalData) (k : ℕ) → (entry_of g k ≡ None) ⊎ ((v : ℕ) × (entry_of g k ≡ Some (value_in v)))
 absent_or g k = go (is (has g.present k))
   where
-    go : Is (has g.present k) → (entry_of g k ≡ Absent) ⊎ ((v : ℕ) × (entry_of g k ≡ value_in v))
+    go : Is (has g.present k) → (entry_of g k ≡ None) ⊎ ((v : ℕ) × (entry_of g k ≡ Some (value_in v)))
     go (on t) = inr (get_or g.values k 0, entry_present g k t)
     go (off f) = inl (entry_absent g k f)
 
 -- ---- nothing, and one entry
-pub entry_nothing : (k : ℕ) → entry_of nothing_of k ≡ Absent
+pub entry_nothing : (k : ℕ) → entry_of nothing_of k ≡ None
 unfolding nothing_of
 entry_nothing k = entry_absent nothing_of k (has_empty k)
 
@@ -72,14 +74,16 @@ one_word : (i v : ℕ) → i < 16 → get_or (one_of i v).values i 0 ≡ v
 unfolding one_of
 one_word i v h = get_or-set_same (replicate 16 0) i v 0 h
 
-pub entry_one : (i v k : ℕ) → i < 16 → entry_of (one_of i v) k ≡ select (same k i) (value_in v) Absent
+pub entry_one : (i v k : ℕ) → i < 16 → entry_of (one_of i v) k ≡ select (same k i) (Some (value_in v)) None
 entry_one i v k h = go (is (same k i))
   where
-    go : Is (same k i) → entry_of (one_of i v) k ≡ select (same k i) (value_in v) Absent
+    go : Is (same k i) → entry_of (one_of i v) k ≡ select (same k i) (Some (value_in v)) None
     go (on t) =
         entry_present (one_of i v) k (present_one i v k ∙ t)
-        ∙ ap value_in (rw (truth.same_on k i t) (one_word i v h)) ∙ sym (select_on (same k i) (value_in v) Absent t)
-    go (off f) = entry_absent (one_of i v) k (present_one i v k ∙ f) ∙ sym (select_off (same k i) (value_in v) Absent f)
+        ∙ ap (λ w. Some (value_in w)) (rw (truth.same_on k i t) (one_word i v h))
+        ∙ sym (select_on (same k i) (Some (value_in v)) None t)
+    go (off f) =
+        entry_absent (one_of i v) k (present_one i v k ∙ f) ∙ sym (select_off (same k i) (Some (value_in v)) None f)
 
 pub nothing_length : length nothing_of.values ≡ 16
 unfolding nothing_of
@@ -90,18 +94,12 @@ unfolding one_of
 one_length i v = length-set (replicate 16 0) i v
 
 -- ---- filling from one row
--- an absent entry takes the other
-unfoldable pub or_entry : Entry → Entry → Entry
-or_entry Absent e = e
-or_entry (Value p d) e = Value p d
+-- an absent entry takes the other, by `option_or`
+pub or_entry_absent : (d e : Entry) → d ≡ None → option_or d e ≡ e
+or_entry_absent d e h = ap (λ x. option_or x e) h
 
-pub or_entry_absent : (d e : Entry) → d ≡ Absent → or_entry d e ≡ e
-unfolding or_entry
-or_entry_absent d e h = rw h
-
-pub or_entry_value : (d e : Entry) (v : ℕ) → d ≡ value_in v → or_entry d e ≡ value_in v
-unfolding or_entry
-or_entry_value d e v h = rw h
+pub or_entry_value : (d e : Entry) (v : Value) → d ≡ Some v → option_or d e ≡ Some v
+or_entry_value d e v h = ap (λ x. option_or x e) h
 
 pub present_fill : (g row : GlobalData) (k : ℕ)
     → has (fill_of g row).present k ≡ (has g.present k or has row.present k)
@@ -117,8 +115,8 @@ unfolding fill_of
 fill_length g row = length-each 16 (filled_word g row)
 
 pub entry_fill : (g row : GlobalData) (k : ℕ) → k < 16
-    → entry_of (fill_of g row) k ≡ or_entry (entry_of g k) (entry_of row k)
-unfolding entry_of fill_of or_entry filled_word select ◌and◌ ◌or◌
+    → entry_of (fill_of g row) k ≡ option_or (entry_of g k) (entry_of row k)
+unfolding entry_of fill_of filled_word select ◌and◌ ◌or◌
 entry_fill g row k h =
     rw (
       has_union g.present row.present k,
@@ -128,7 +126,7 @@ entry_fill g row k h =
     (table (has g.present k) (has row.present k) (get_or g.values k 0) (get_or row.values k 0))
   where
     table : (a b : Bool) (x y : ℕ)
-        → entry_by (a or b) (select (b and not a) y x) ≡ or_entry (entry_by a x) (entry_by b y)
+        → entry_by (a or b) (select (b and not a) y x) ≡ option_or (entry_by a x) (entry_by b y)
     table true true x y = refl
     table true false x y = refl
     table false true x y = refl
@@ -227,54 +225,55 @@ module _ (m : ℕ) (rows : ℕ → GlobalData) (g : GlobalData) where
       p l
 
   -- a value once there is kept
-  pub fill_later : (q p k v : ℕ) → k < 16 → q ≤ p → entry_of (fill_from q m rows g) k ≡ value_in v
-      → entry_of (fill_from p m rows g) k ≡ value_in v
+  pub fill_later : (q p k v : ℕ) → k < 16 → q ≤ p → entry_of (fill_from q m rows g) k ≡ Some (value_in v)
+      → entry_of (fill_from p m rows g) k ≡ Some (value_in v)
   fill_later q p k v b l h = go (p - q) p (omega arith)
     where
-      step : (p : ℕ) → Is (has m p) → entry_of (fill_from p m rows g) k ≡ value_in v
-          → entry_of (fill_from (suc p) m rows g) k ≡ value_in v
+      step : (p : ℕ) → Is (has m p) → entry_of (fill_from p m rows g) k ≡ Some (value_in v)
+          → entry_of (fill_from (suc p) m rows g) k ≡ Some (value_in v)
       step p (on e) ih =
           ap (λ (f : GlobalData). entry_of f k) (fill_from_on p e) ∙ entry_fill (fill_from p m rows g) (rows p) k b
-          ∙ or_entry_value (entry_of (fill_from p m rows g) k) (entry_of (rows p) k) v ih
+          ∙ or_entry_value _ _ _ ih
       step p (off e) ih = ap (λ (f : GlobalData). entry_of f k) (fill_from_off p e) ∙ ih
 
-      go : (d p : ℕ) → p ≡ q + d → entry_of (fill_from p m rows g) k ≡ value_in v
+      go : (d p : ℕ) → p ≡ q + d → entry_of (fill_from p m rows g) k ≡ Some (value_in v)
       go zero p e = let e' : p ≡ q = omega arith in rw e' h
       go (suc d) p e =
           let e' : p ≡ suc (q + d) = omega arith in
           rw e' (step (q + d) (is (has m (q + d))) (go d (q + d) refl))
 
-  pub fill_keeps : (p k v : ℕ) → k < 16 → entry_of g k ≡ value_in v → entry_of (fill_from p m rows g) k ≡ value_in v
+  pub fill_keeps : (p k v : ℕ) → k < 16 → entry_of g k ≡ Some (value_in v)
+      → entry_of (fill_from p m rows g) k ≡ Some (value_in v)
   unfolding fill_from
   fill_keeps p k v b h = fill_later 0 p k v b (omega arith) h
 
   -- an entry is absent after filling just where it is absent in g and in each member's row
-  pub fill_absent : (p k : ℕ) → k < 16 → entry_of g k ≡ Absent
-      → ((q : ℕ) → q < p → has m q ≡ true → entry_of (rows q) k ≡ Absent) → entry_of (fill_from p m rows g) k ≡ Absent
+  pub fill_absent : (p k : ℕ) → k < 16 → entry_of g k ≡ None
+      → ((q : ℕ) → q < p → has m q ≡ true → entry_of (rows q) k ≡ None) → entry_of (fill_from p m rows g) k ≡ None
   fill_absent p k b hg =
       fill_from_ind
       (λ (q : ℕ) (f : GlobalData).
-      ((r : ℕ) → r < q → has m r ≡ true → entry_of (rows r) k ≡ Absent) → entry_of f k ≡ Absent)
+      ((r : ℕ) → r < q → has m r ≡ true → entry_of (rows r) k ≡ None) → entry_of f k ≡ None)
       (λ h. hg)
       (λ q ih e h.
       entry_fill (fill_from q m rows g) (rows q) k b
-      ∙ or_entry_absent (entry_of (fill_from q m rows g) k) (entry_of (rows q) k) (ih (λ r l. h r (omega arith)))
+      ∙ or_entry_absent _ _ (ih (λ r l. h r (omega arith)))
       ∙ h q (omega arith) e)
       (λ q ih e h. ih (λ r l. h r (omega arith))) p
 
-  pub absent_own : (p k : ℕ) → entry_of (fill_from p m rows g) k ≡ Absent → entry_of g k ≡ Absent
+  pub absent_own : (p k : ℕ) → entry_of (fill_from p m rows g) k ≡ None → entry_of g k ≡ None
   absent_own p k h = go (is (has g.present k))
     where
-      go : Is (has g.present k) → entry_of g k ≡ Absent
+      go : Is (has g.present k) → entry_of g k ≡ None
       go (on t) =
           clash (has (fill_from p m rows g).present k) (fill_stays p k t) (absent_clear (fill_from p m rows g) k h)
       go (off f) = entry_absent g k f
 
-  pub absent_rows : (p k : ℕ) → entry_of (fill_from p m rows g) k ≡ Absent → (q : ℕ) → q < p → has m q ≡ true
-      → entry_of (rows q) k ≡ Absent
+  pub absent_rows : (p k : ℕ) → entry_of (fill_from p m rows g) k ≡ None → (q : ℕ) → q < p → has m q ≡ true
+      → entry_of (rows q) k ≡ None
   absent_rows p k h q l e = go (is (has (rows q).present k))
     where
-      go : Is (has (rows q).present k) → entry_of (rows q) k ≡ Absent
+      go : Is (has (rows q).present k) → entry_of (rows q) k ≡ None
       go (on t) =
           clash (has (fill_from p m rows g).present k) (fill_has p q k l e t) (absent_clear (fill_from p m rows g) k h)
       go (off f) = entry_absent (rows q) k f
@@ -284,23 +283,24 @@ pub record Lowest (m : ℕ) (rows : ℕ → GlobalData) (g : GlobalData) (p k v 
   pub who : ℕ
   pub low : who < p
   pub member : has m who ≡ true
-  pub shows : entry_of (rows who) k ≡ value_in v
-  pub lacks : entry_of g k ≡ Absent
-  pub none_before : (q : ℕ) → q < who → has m q ≡ true → entry_of (rows q) k ≡ Absent
+  pub shows : entry_of (rows who) k ≡ Some (value_in v)
+  pub lacks : entry_of g k ≡ None
+  pub none_before : (q : ℕ) → q < who → has m q ≡ true → entry_of (rows q) k ≡ None
 
 module _ (m : ℕ) (rows : ℕ → GlobalData) (g : GlobalData) where
   -- where a value comes from
-  pub fill_comes : (p k v : ℕ) → k < 16 → entry_of (fill_from p m rows g) k ≡ value_in v
-      → (entry_of g k ≡ value_in v) ⊎ Lowest m rows g p k v
+  pub fill_comes : (p k v : ℕ) → k < 16 → entry_of (fill_from p m rows g) k ≡ Some (value_in v)
+      → (entry_of g k ≡ Some (value_in v)) ⊎ Lowest m rows g p k v
   fill_comes p k v b =
       fill_from_ind m rows g
-      (λ (q : ℕ) (f : GlobalData). entry_of f k ≡ value_in v → (entry_of g k ≡ value_in v) ⊎ Lowest m rows g q k v)
+      (λ (q : ℕ) (f : GlobalData). entry_of f k ≡ Some (value_in v)
+      → (entry_of g k ≡ Some (value_in v)) ⊎ Lowest m rows g q k v)
       inl (λ q ih e h. filled q e ih (sym (entry_fill (fill_from q m rows g) (rows q) k b) ∙ h)
       (absent_or (fill_from q m rows g) k))
       (λ q ih e h. more q (ih h)) p
     where
-      more : (q : ℕ) → (entry_of g k ≡ value_in v) ⊎ Lowest m rows g q k v
-          → (entry_of g k ≡ value_in v) ⊎ Lowest m rows g (suc q) k v
+      more : (q : ℕ) → (entry_of g k ≡ Some (value_in v)) ⊎ Lowest m rows g q k v
+          → (entry_of g k ≡ Some (value_in v)) ⊎ Lowest m rows g (suc q) k v
       more q (inl h) = inl h
       more q (inr w) =
           inr record {
@@ -313,47 +313,51 @@ module _ (m : ℕ) (rows : ℕ → GlobalData) (g : GlobalData) where
           }
 
       filled : (q : ℕ) → has m q ≡ true
-          → (entry_of (fill_from q m rows g) k ≡ value_in v → (entry_of g k ≡ value_in v) ⊎ Lowest m rows g q k v)
-          → or_entry (entry_of (fill_from q m rows g) k) (entry_of (rows q) k) ≡ value_in v
-          → (entry_of (fill_from q m rows g) k ≡ Absent) ⊎ ((w : ℕ) × (entry_of (fill_from q m rows g) k ≡ value_in w))
-          → (entry_of g k ≡ value_in v) ⊎ Lowest m rows g (suc q) k v
+          → (entry_of (fill_from q m rows g) k ≡ Some (value_in v)
+          → (entry_of g k ≡ Some (value_in v)) ⊎ Lowest m rows g q k v)
+          → option_or (entry_of (fill_from q m rows g) k) (entry_of (rows q) k) ≡ Some (value_in v)
+          → (entry_of (fill_from q m rows g) k ≡ None)
+          ⊎ ((w : ℕ) × (entry_of (fill_from q m rows g) k ≡ Some (value_in w)))
+          → (entry_of g k ≡ Some (value_in v)) ⊎ Lowest m rows g (suc q) k v
       filled q e ih h (inl a) =
           inr record {
             who = q;
             low = omega arith;
             member = e;
-            shows = sym (or_entry_absent (entry_of (fill_from q m rows g) k) (entry_of (rows q) k) a) ∙ h;
+            shows = sym (or_entry_absent _ _ a) ∙ h;
             lacks = absent_own m rows g q k a;
             none_before = absent_rows m rows g q k a;
           }
       filled q e ih h (inr w) =
           more q
-          (ih (w.1 ∙ sym (or_entry_value (entry_of (fill_from q m rows g) k) (entry_of (rows q) k) w.0 w.1) ∙ h))
+          (ih (w.1 ∙ sym (or_entry_value _ _ _ w.1) ∙ h))
 
   -- and it is that member's value
-  pub fill_lowest : (p k v : ℕ) → k < 16 → Lowest m rows g p k v → entry_of (fill_from p m rows g) k ≡ value_in v
+  pub fill_lowest : (p k v : ℕ) → k < 16 → Lowest m rows g p k v
+      → entry_of (fill_from p m rows g) k ≡ Some (value_in v)
   fill_lowest p k v b w =
       let q = w.who in
       fill_later m rows g (suc q) p k v b w.low
       (ap (λ (f : GlobalData). entry_of f k) (fill_from_on m rows g q w.member)
       ∙ entry_fill (fill_from q m rows g) (rows q) k b
-      ∙ or_entry_absent (entry_of (fill_from q m rows g) k) (entry_of (rows q) k)
-      (fill_absent m rows g q k b w.lacks w.none_before)
+      ∙ or_entry_absent _ _ (fill_absent m rows g q k b w.lacks w.none_before)
       ∙ w.shows)
 
 -- ---- the same global data
 pub same_entry_on : (d e : Entry) → same_entry d e ≡ true → d ≡ e
 unfolding same_entry
-same_entry_on Absent Absent h = refl
-same_entry_on Absent (Value q e) h = clash false h refl
-same_entry_on (Value p d) Absent h = clash false h refl
-same_entry_on (Value p d) (Value q e) h =
-    ap₂ Value (truth.same_on p q (and_first _ _ h)) (truth.same_on d e (and_second _ _ h))
+same_entry_on None None h = refl
+same_entry_on None (Some w) h = clash false h refl
+same_entry_on (Some v) None h = clash false h refl
+same_entry_on (Some v) (Some w) h =
+    let p = truth.same_on v.portions w.portions (and_first _ _ h) in
+    let d = truth.same_on v.diet w.diet (and_second _ _ h) in
+    ap Some (λ i. record { portions = p i; diet = d i })
 
 pub same_entry_refl : (e : Entry) → same_entry e e ≡ true
 unfolding same_entry
-same_entry_refl Absent = refl
-same_entry_refl (Value p d) = and_mk _ _ (truth.same_refl p) (truth.same_refl d)
+same_entry_refl None = refl
+same_entry_refl (Some v) = and_mk _ _ (truth.same_refl v.portions) (truth.same_refl v.diet)
 
 module _ (n : ℕ) (g h : GlobalData) where
   pub same_on : same_to n g h ≡ true → (k : ℕ) → k < n → entry_of g k ≡ entry_of h k
@@ -397,7 +401,7 @@ same_present : (g h : GlobalData) (k : ℕ) → entry_of g k ≡ entry_of h k �
 same_present g h k e = by_both _ _ (λ t. on_too g h e t) (λ t. on_too h g (sym e) t)
   where
     on_too : (g h : GlobalData) → entry_of g k ≡ entry_of h k → has g.present k ≡ true → has h.present k ≡ true
-    on_too g h e t = value_present h k _ _ (sym e ∙ entry_present g k t)
+    on_too g h e t = value_present h k _ (sym e ∙ entry_present g k t)
 
 has-marks : (n : ℕ) (g : GlobalData) (k : ℕ) → has (marks n g) k ≡ (less k n and has g.present k)
 has-marks n g k = has_intersection _ _ k ∙ ap (λ (b : Bool). b and has g.present k) (has_all n k)
@@ -434,15 +438,15 @@ module _ (n : ℕ) (g h : GlobalData) where
             let l : k < n = less_on k n (and_first _ _ b) in
             let u : has g.present k ≡ true = and_second _ _ b in
             select_on _ _ true t
-            ∙ truth.same_mk _ _ (value_word _ _ (sym (entry_present g k u) ∙ same_on n g h e k l
-            ∙ entry_present h k (sym (there k l) ∙ u)))
+            ∙ truth.same_mk _ _ (value_word _ _ (same_Some _ _ (sym (entry_present g k u) ∙ same_on n g h e k l
+            ∙ entry_present h k (sym (there k l) ∙ u))))
 
         entries : (k : ℕ) → k < n → words_same (marks n g) g h k ≡ true → Is (has g.present k)
             → entry_of g k ≡ entry_of h k
         entries k l e (off f) = entry_absent g k f ∙ sym (entry_absent h k (sym (there k l) ∙ f))
         entries k l e (on t) =
             entry_present g k t
-            ∙ ap value_in (truth.same_on _ _
+            ∙ ap (λ w. Some (value_in w)) (truth.same_on _ _
             (sym (select_on _ _ true (has-marks n g k ∙ and_mk _ _ (less_mk k n l) t)) ∙ e))
             ∙ sym (entry_present h k (sym (there k l) ∙ t))
 

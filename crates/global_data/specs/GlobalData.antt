@@ -1,12 +1,12 @@
 -- The global data (document 01's sheet): an entry for each process, absent or a value,
 -- and how entries are filled and compared.
-use Rattle.std.specs.Prelude.{Bool, true, false, not, List, [], ℕ, zero, suc, ◌/◌, ◌%◌, get_or, set, replicate}
+use Rattle.std.specs.Prelude.{Bool, true, false, not, Option, None, Some, List, [], ℕ, zero, suc, ◌/◌, ◌%◌}
+use Rattle.std.specs.Prelude.{get_or, set, replicate}
 use Rattle.sets.specs.Lists.{each, every}
 use Rattle.sets.specs.Set.{has, insert_of, union_of, difference_of, empty_set}
 use Rattle.sets.specs.Truth.{◌and◌, same, less, select}
 use Rattle.global_data.specs.declared.GlobalData.{GlobalData}
-use Rattle.global_data.specs.declared.Entry.{Entry}
-use Rattle.global_data.specs.declared.Entry.TheVariants.{Absent, Value}
+use Rattle.global_data.specs.declared.Value.{Value}
 
 -- ---- a value (request C-15): portions, and the diet portions among them, 16 bits each.
 -- A word holds both, portions in its low half and diet portions in its high half.
@@ -16,28 +16,35 @@ portions_of w = w % 65536
 unfoldable pub diet_of : ℕ → ℕ
 diet_of w = w / 65536
 
-abbrev pub value_in : ℕ → Entry
-value_in w = Value (portions_of w) (diet_of w)
+abbrev pub value_in : ℕ → Value
+value_in w = record { portions = portions_of w; diet = diet_of w }
 
--- ---- entries
+-- ---- entries: absent, or a value
+abbrev pub Entry : Type 0
+Entry = Option Value
+
+-- one of p portions and d diet portions
+abbrev pub entry_with : ℕ → ℕ → Entry
+entry_with p d = Some (record { portions = p; diet = d })
+
 -- the entry of a present bit and a word: document 01's blank, or the value in the word
 abbrev pub entry_by : Bool → ℕ → Entry
-entry_by b w = select b (value_in w) Absent
+entry_by b w = select b (Some (value_in w)) None
 
 unfoldable pub entry_of : GlobalData → ℕ → Entry
 entry_of g k = entry_by (has g.present k) (get_or g.values k 0)
 
 -- absent in both, or in both the same portions and the same diet portions
 unfoldable pub same_entry : Entry → Entry → Bool
-same_entry Absent Absent = true
-same_entry Absent (Value q e) = false
-same_entry (Value p d) Absent = false
-same_entry (Value p d) (Value q e) = same p q and same d e
+same_entry None None = true
+same_entry None (Some w) = false
+same_entry (Some v) None = false
+same_entry (Some v) (Some w) = same v.portions w.portions and same v.diet w.diet
 
 -- what refusal 15 looks at: the diet portions do not exceed the portions. An absent entry has neither.
 unfoldable pub diet_fits : Entry → Bool
-diet_fits Absent = true
-diet_fits (Value p d) = not (less p d)
+diet_fits None = true
+diet_fits (Some v) = not (less v.portions v.diet)
 
 -- every entry absent
 unfoldable pub nothing_of : GlobalData

@@ -1,11 +1,11 @@
 -- Laws of the word of a value: its two numbers are found, and put together again they are the word, so that one
 -- comparison of words compares both. A word is p + 65536 * d with p below 65536.
-use Rattle.std.specs.Prelude.{◌≡◌, true, false, ℕ, ◌+◌, ◌*◌, ◌^◌, ◌≤◌, ◌<◌}
+use Rattle.std.specs.Prelude.{◌≡◌, true, false, Some, ℕ, ◌+◌, ◌*◌, ◌^◌, ◌≤◌, ◌<◌}
 use Rattle.std.proofs.Common.{ap, arith}
 use Rattle.sets.specs.Truth.{same}
 use Rattle.sets.specs.TruthLaws.{by_both, and_first, and_second, and_mk, same_on, same_mk, less_on, less_mk}
 use Rattle.sets.specs.TruthLaws.{less-not, less_off, not_on, not_off}
-use Rattle.global_data.specs.declared.Entry.TheVariants.{Value}
+use Rattle.global_data.specs.declared.Value.{Value}
 use Rattle.global_data.specs.GlobalData.{portions_of, diet_of, value_in, same_entry, diet_fits}
 
 -- ---- put together
@@ -41,12 +41,9 @@ pub same_word : (v w : ℕ) → portions_of v ≡ portions_of w → diet_of v �
 same_word v w p d = omega (arith, word_is v, word_is w)
 
 pub value_word : (v w : ℕ) → value_in v ≡ value_in w → v ≡ w
-value_word v w e =
-    let p : portions_of v ≡ portions_of w = cc in
-    let d : diet_of v ≡ diet_of w = cc in
-    same_word v w p d
+value_word v w e = same_word v w (ap (λ x. x.portions) e) (ap (λ x. x.diet) e)
 
-pub same_words : (v w : ℕ) → same_entry (value_in v) (value_in w) ≡ same v w
+pub same_words : (v w : ℕ) → same_entry (Some (value_in v)) (Some (value_in w)) ≡ same v w
 unfolding same_entry
 same_words v w =
     by_both _ _
@@ -54,18 +51,18 @@ same_words v w =
     (λ e. let q = same_on v w e in and_mk _ _ (same_mk _ _ (ap portions_of q)) (same_mk _ _ (ap diet_of q)))
 
 -- ---- what refusal 15 looks at
-pub fits_on : (p d : ℕ) → diet_fits (Value p d) ≡ true → d ≤ p
+pub fits_on : (v : Value) → diet_fits (Some v) ≡ true → v.diet ≤ v.portions
 unfolding diet_fits
-fits_on p d e = less-not p d (not_on _ e)
+fits_on v e = less-not v.portions v.diet (not_on _ e)
 
-pub fits_mk : (p d : ℕ) → d ≤ p → diet_fits (Value p d) ≡ true
+pub fits_mk : (v : Value) → v.diet ≤ v.portions → diet_fits (Some v) ≡ true
 unfolding diet_fits
-fits_mk p d h = rw (less_off p d h)
+fits_mk v h = rw (less_off v.portions v.diet h)
 
-pub fits_not : (p d : ℕ) → diet_fits (Value p d) ≡ false → p < d
+pub fits_not : (v : Value) → diet_fits (Some v) ≡ false → v.portions < v.diet
 unfolding diet_fits
-fits_not p d e = less_on p d (not_off _ e)
+fits_not v e = less_on v.portions v.diet (not_off _ e)
 
-pub fits_off : (p d : ℕ) → p < d → diet_fits (Value p d) ≡ false
+pub fits_off : (v : Value) → v.portions < v.diet → diet_fits (Some v) ≡ false
 unfolding diet_fits
-fits_off p d h = rw (less_mk p d h)
+fits_off v h = rw (less_mk v.portions v.diet h)

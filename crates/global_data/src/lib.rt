@@ -4,17 +4,19 @@
 
 ghost use Rattle.std.specs.Prelude.{◌≡◌, true, ℕ, ◌<◌, ◌≤◌, length};
 ghost use Rattle.sets.specs.Truth.{same, select};
-ghost use Rattle.global_data.specs.declared.Entry.{Entry};
 ghost use Rattle.global_data.specs.GlobalData.{portions_of, diet_of, value_in, diet_fits};
 ghost use Rattle.global_data.specs.GlobalData.{nothing_of, one_of, fill_of, same_to, fill_from, all_same};
 ghost use Rattle.global_data.specs.Rows.{Gives};
 
-// An entry: document 01's blank, or a value: portions, and the diet portions among them.
-#[derive(Clone, Copy)]
-pub enum Entry {
-    Absent,
-    Value { portions: u16, diet: u16 },
+// A value: portions, and the diet portions among them. Values are ordered by portions, then by diet portions.
+#[derive(Clone, Copy, PartialEq, Eq, PartialOrd, Ord)]
+pub struct Value {
+    pub portions: u16,
+    pub diet: u16,
 }
+
+// An entry: document 01's blank, or a value.
+pub type Entry = Option<Value>;
 
 // The word of a present entry has its portions in the low half and its diet portions in the high half.
 #[repr(C)]
@@ -45,13 +47,15 @@ pub fn diet(word: u32) -> u16
     (word / 65536) as u16
 }
 
-// The value in a word.
-pub fn value_in(word: u32) -> Entry
-    ensures { result ≡ value_in word }
-{
-    Entry::Value {
-        portions: portions(word),
-        diet: diet(word),
+impl From<u32> for Value {
+    ghost from_gives = { λ word v. v ≡ value_in word };
+
+    // The value in a word.
+    fn from(word: u32) -> Value {
+        Value {
+            portions: portions(word),
+            diet: diet(word),
+        }
     }
 }
 
@@ -59,10 +63,7 @@ pub fn value_in(word: u32) -> Entry
 pub fn diet_fits(entry: Entry) -> bool
     ensures { result ≡ diet_fits entry }
 {
-    match entry {
-        Entry::Absent => true,
-        Entry::Value { portions, diet } => diet <= portions,
-    }
+    entry.is_none_or(|v| v.diet <= v.portions)
 }
 
 impl GlobalData {

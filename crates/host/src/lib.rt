@@ -17,7 +17,7 @@ pub struct Ran<'a> {
     pub bench: Bench,
     pub accepted: u32,
     pub cause: Cause,
-    pub closing: Closing,
+    pub closing: Option<Closing>,
     pub rest: &'a [u8],
 }
 

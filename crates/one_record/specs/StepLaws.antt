@@ -1,7 +1,7 @@
 -- The call for one record is a run of it alone, or of nothing, with a budget of one;
 -- and the tally by what the answer says and the record's kind.
 -- An accepted record has the kind of its event, so an accepted one is a crash when its first byte is 5.
-use Rattle.std.specs.Prelude.{◌≡◌, ◌≢◌, ◌⊎◌, Bool, true, false, ℕ, zero, suc, ◌≤◌, ◌<◌, get_or, take, drop}
+use Rattle.std.specs.Prelude.{◌≡◌, ◌≢◌, ◌⊎◌, Bool, true, false, ℕ, zero, suc, ◌≤◌, ◌<◌, get_or, take, drop, None, Ok, Err, is_ok}
 use Rattle.std.proofs.Math.Path.{refl, sym, ap}
 use Rattle.std.proofs.Common.{◌∙◌, inl, inr, length-drop, take_all}
 use Rattle.std.proofs.Math.Logic.{⊎_elim}
@@ -10,12 +10,10 @@ use native.Mathlib.Omega.{arith}
 use Rattle.std.proofs.Math.ListN.{length}
 use Rattle.sets.specs.Truth.{◌and◌, same, select}
 use Rattle.sets.specs.TruthLaws.{Is, on, off, is, select_on, select_off, and_off_l, same_on, same_mk, same_off, eq-or}
-use Rattle.process.specs.declared.Closing.TheVariants.{None}
+use Rattle.refusal.specs.declared.Refusal.TheVariants.{Damaged, Length}
+use Rattle.refusal.specs.Numbers.{refused}
 use Rattle.bench.specs.declared.Bench.{Bench}
-use Rattle.bench.specs.declared.Answer.TheVariants.{Accepted, Refused}
-use Rattle.bench.specs.declared.Decoded.TheVariants.{Got}
 use Rattle.bench.specs.declared.Counters.{Counters}
-use Rattle.bench.specs.declared.Refusal.{Refusal}
 use Rattle.bench.specs.Sound.{sound_of}
 use Rattle.bench.specs.Record.{event_of, decode_of, v2, decode_as}
 use Rattle.bench.proofs.RecordLaws.{decode_from, decode_size}
@@ -26,17 +24,17 @@ use Rattle.bench.specs.Closings.{last_of}
 use Rattle.bench.specs.RunLoop.{closing_in}
 use Rattle.bench.proofs.ClosingLaws.{closing_refused}
 use Rattle.bench.specs.LastLaws.{none_last}
-use Rattle.bench.specs.Calls.{refused, answer_of, step_of}
+use Rattle.bench.specs.Calls.{answer_of, step_of}
 use Rattle.bench.specs.Calls.{tallied, crash_decoded, tally_of, run_of}
 use Rattle.bench.specs.RunLoop.{ended_of, run_from}
-use Rattle.one_record.specs.OneRecord.{record_in, answer_to, stepped_by, is_accepted, crash_byte}
+use Rattle.one_record.specs.OneRecord.{record_in, answer_to, stepped_by, crash_byte}
 use Rattle.bench.proofs.RunLaws.{step_is, run_empty, run-refused, run_accepted, run_damaged, run_sound}
 
 -- ---- one record
 module _ (s : Bench) (l : List ℕ) where
   -- a refused record, by its number
   pub step_refused : (k : ℕ) → refusal s l ≡ k → k ≢ 0
-      → record { answer = Refused (refused k); closing = None; bench = s } ≡ step_of s l
+      → record { answer = Err (refused k); closing = None; bench = s } ≡ step_of s l
   unfolding answer_of
   step_refused k e z =
       rw (
@@ -44,28 +42,27 @@ module _ (s : Bench) (l : List ℕ) where
         closing_refused s l (rw e z),
         refused-keeps s l (rw e z),
         e,
-        select_off (same k 0) Accepted (Refused (refused k)) (same_off k 0 z),
+        select_off (same k 0) (Ok (tt {0})) (Err (refused k)) (same_off k 0 z),
       )
 
   pub step_damaged : sound_of s ≡ false
-      → record { answer = Refused (refused 2); closing = None; bench = s } ≡ step_of s l
+      → record { answer = Err Damaged; closing = None; bench = s } ≡ step_of s l
   step_damaged d = step_refused 2 (refusal_damaged s l d) (omega arith)
 
   pub step_size : sound_of s ≡ true → length l ≢ 8
-      → record { answer = Refused (refused 3); closing = None; bench = s } ≡ step_of s l
+      → record { answer = Err Length; closing = None; bench = s } ≡ step_of s l
   step_size h n =
-      let r : Refusal = record { number = 3 } in
-      step_refused 3 (refusal_unread s l h r (decode_size s.n s.t l n)) (omega arith)
+      step_refused 3 (refusal_unread s l h Length (decode_size s.n s.t l n)) (omega arith)
 
   step_accepted : refusal s l ≡ 0
-      → record { answer = Accepted; closing = closing_in s l; bench = effect_of s l } ≡ step_of s l
+      → record { answer = Ok tt; closing = closing_in s l; bench = effect_of s l } ≡ step_of s l
   unfolding answer_of
   step_accepted e =
       rw (
         step_is s l,
         accepted_effect s l e,
         e,
-        select_on (same 0 0) Accepted (Refused (refused 0)) (same_mk 0 0 refl),
+        select_on (same 0 0) (Ok (tt {0})) (Err (refused 0)) (same_mk 0 0 refl),
       )
 
   -- a damaged bench is refused whatever is run
@@ -94,7 +91,7 @@ module _ (s : Bench) (l : List ℕ) where
               whole_record,
               none_last (closing_in s l),
             )
-            (rw (select_off (same 1 0) (Refused (refused 3)) Accepted (same_off 1 0 (omega arith)))
+            (rw (select_off (same 1 0) (Err Length) (Ok (tt {0})) (same_off 1 0 (omega arith)))
             (step_accepted (rw whole_record at z)))
 
         turned : refusal s (take 8 l) ≢ 0 → stepped_by (run_from v2 1 l s 0 None 0) ≡ step_of s l
@@ -106,7 +103,7 @@ module _ (s : Bench) (l : List ℕ) where
   not_whole : length l ≢ 8 → sound_of s ≡ true → stepped_by (run_from v2 1 [] s 0 None 0) ≡ step_of s l
   unfolding stepped_by answer_to ended_of
   not_whole n h =
-      rw (run_empty [] s 0 None 0 1 refl, select_on (same 0 0) (Refused (refused 3)) Accepted (same_mk 0 0 refl))
+      rw (run_empty [] s 0 None 0 1 refl, select_on (same 0 0) (Err Length) (Ok (tt {0})) (same_mk 0 0 refl))
       (step_size h n)
 
   pub step_run : stepped_by (run_of 1 (record_in l) s) ≡ step_of s l
@@ -125,21 +122,21 @@ unfolding crash_byte same
 no_byte [] h = refl
 no_byte (x ∷ l) h = absurd (omega arith)
 
-answer_accepted : (k : ℕ) → is_accepted (answer_of k) ≡ same k 0
-unfolding is_accepted answer_of
+answer_accepted : (k : ℕ) → is_ok (answer_of k) ≡ same k 0
+unfolding answer_of
 answer_accepted k = go (is (same k 0))
   where
-    go : Is (same k 0) → is_accepted (select (same k 0) Accepted (Refused (refused k))) ≡ same k 0
-    go (on e) = rw (select_on (same k 0) Accepted (Refused (refused k)) e) (sym e)
-    go (off e) = rw (select_off (same k 0) Accepted (Refused (refused k)) e) (sym e)
+    go : Is (same k 0) → is_ok (select (same k 0) (Ok (tt {0})) (Err (refused k))) ≡ same k 0
+    go (on e) = rw (select_on (same k 0) (Ok (tt {0})) (Err (refused k)) e) (sym e)
+    go (off e) = rw (select_off (same k 0) (Ok (tt {0})) (Err (refused k)) e) (sym e)
 
-past_crash : (k a b r v : ℕ) → 5 < k → crash_decoded (Got (event_of k a b r v)) ≡ same k 5
+past_crash : (k a b r v : ℕ) → 5 < k → crash_decoded (Ok (event_of k a b r v)) ≡ same k 5
 unfolding crash_decoded is_crash event_of select
 past_crash k a b r v h =
     let no : (i : ℕ) → i ≤ 5 → same k i ≡ false = λ i l. same_off k i (λ e. omega (arith, e)) in
     rw (no 1 (omega arith), no 2 (omega arith), no 3 (omega arith), no 4 (omega arith), no 5 (omega arith))
 
-crash_kind : (k a b r v : ℕ) → crash_decoded (Got (event_of k a b r v)) ≡ same k 5
+crash_kind : (k a b r v : ℕ) → crash_decoded (Ok (event_of k a b r v)) ≡ same k 5
 unfolding crash_decoded is_crash event_of same select
 crash_kind zero a b r v = refl
 crash_kind (suc zero) a b r v = refl
@@ -164,6 +161,6 @@ module _ (s : Bench) (l : List ℕ) where
           ap (λ (x : Bool). same (refusal s l) 0 and x) (rw (w.decoded, f.event) (crash_kind (get_or l 0 0) _ _ _ _))
       go (off e) = and_off_l _ _ e ∙ sym (and_off_l _ _ e)
 
-  pub tally_step : (c : Counters) → tallied (is_accepted (step_of s l).answer) (crash_byte l) c ≡ tally_of s l c
+  pub tally_step : (c : Counters) → tallied (is_ok (step_of s l).answer) (crash_byte l) c ≡ tally_of s l c
   unfolding tallied tally_of step_of refusal decode_as
   tally_step c = rw (answer_accepted (refusal s l), crash_byte_lem)

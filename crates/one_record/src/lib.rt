@@ -2,11 +2,12 @@
 // The forms that lend a struct or hand back the rest of the schedule are in `host`.
 #![tactic(auto)]
 
-ghost use Rattle.std.specs.Prelude.{◌≡◌, drop};
+ghost use Rattle.std.specs.Prelude.{◌≡◌, drop, is_ok};
 ghost use Rattle.bench.specs.Calls.{raised, step_of, tallied};
-ghost use Rattle.one_record.specs.OneRecord.{answer_to, record_in, is_accepted, crash_byte, counted_of};
+ghost use Rattle.one_record.specs.OneRecord.{answer_to, record_in, crash_byte, counted_of};
 
-use bench::{Answer, Bench, Cause, Counters, Refusal, Stepped};
+use bench::{Bench, Cause, Counters, Stepped};
+use refusal::Refusal;
 use run::run_bytes;
 
 // What the call for one record gives, with the tally after it.
@@ -25,19 +26,19 @@ pub fn record_in(rec: &[u8]) -> &[u8]
 }
 
 // The answer by the end of a run of the record, with a budget of one: no record was taken where there was none.
-pub fn answer_to(accepted: u32, cause: Cause) -> Answer
+pub fn answer_to(accepted: u32, cause: Cause) -> Result<(), Refusal>
     ensures { result ≡ answer_to accepted cause }
 {
     match cause {
         Cause::Empty => {
             if accepted == 0 {
-                Answer::Refused(Refusal { number: 3 })
+                Err(Refusal::Length)
             } else {
-                Answer::Accepted
+                Ok(())
             }
         }
-        Cause::Spent => Answer::Accepted,
-        Cause::Refused(r) => Answer::Refused(r),
+        Cause::Spent => Ok(()),
+        Cause::Refused(r) => Err(r),
     }
 }
 
@@ -53,15 +54,6 @@ pub fn step_bytes(b: Bench, rec: &[u8]) -> Stepped
         answer: answer_to(e.accepted, cause),
         closing,
         bench,
-    }
-}
-
-fn is_accepted(a: Answer) -> bool
-    ensures { result ≡ is_accepted a }
-{
-    match a {
-        Answer::Accepted => true,
-        Answer::Refused(_) => false,
     }
 }
 
@@ -93,10 +85,10 @@ fn updated(c: Counters, accepted: bool, crash: bool) -> Counters
 }
 
 // The tally after an answer to `rec`.
-pub fn tally_after(c: Counters, a: Answer, rec: &[u8]) -> Counters
-    ensures { result ≡ tallied (is_accepted a) (crash_byte rec.now) c }
+pub fn tally_after(c: Counters, a: Result<(), Refusal>, rec: &[u8]) -> Counters
+    ensures { result ≡ tallied (is_ok a) (crash_byte rec.now) c }
 {
-    updated(c, is_accepted(a), crash_byte(rec))
+    updated(c, a.is_ok(), crash_byte(rec))
 }
 
 // The tally by value.

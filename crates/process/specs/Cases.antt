@@ -1,13 +1,11 @@
 -- Closes of explicit processes, as one table, and one theorem that the definitions give each of them
 -- its end: the checker computes it.
-use Rattle.std.specs.Prelude.{◌≡◌, refl, List, [], ◌∷◌, Bool, true, false, not, ℕ, zero, suc, ◌+◌, ◌*◌}
+use Rattle.std.specs.Prelude.{◌≡◌, refl, Some, List, [], ◌∷◌, Bool, true, false, not, ℕ, zero, suc, ◌+◌, ◌*◌, None}
 use Rattle.sets.specs.Lists.{each, every}
 use Rattle.sets.specs.Set.{has, insert_of, remove_of, union_of, intersection_of, difference_of, all_of}
 use Rattle.sets.specs.Truth.{◌and◌, ◌or◌, same, select}
 use Rattle.global_data.specs.declared.GlobalData.{GlobalData}
-use Rattle.global_data.specs.declared.Entry.{Entry}
-use Rattle.global_data.specs.declared.Entry.TheVariants.{Absent, Value}
-use Rattle.global_data.specs.GlobalData.{portions_of, diet_of, entry_of, same_entry, rows_of}
+use Rattle.global_data.specs.GlobalData.{portions_of, diet_of, Entry, entry_with, entry_of, same_entry, rows_of}
 use Rattle.global_data.specs.GlobalData.{filled_word, fill_of, fill_from, same_to, all_same}
 use Rattle.process.specs.declared.Process.{Process}
 use Rattle.process.specs.declared.Closing.{Closing}
@@ -53,10 +51,10 @@ pub record Case : Type 0 where
 -- global data of the entries, from entry k
 data_from : ℕ → List Entry → GlobalData
 data_from k [] = record { present = 0; values = [] }
-data_from k (Absent ∷ l) = let g = data_from (suc k) l in record { present = g.present; values = 0 ∷ g.values }
-data_from k (Value p d ∷ l) =
+data_from k (None ∷ l) = let g = data_from (suc k) l in record { present = g.present; values = 0 ∷ g.values }
+data_from k (Some v ∷ l) =
     let g = data_from (suc k) l in
-    record { present = insert_of g.present k; values = (p + 65536 * d) ∷ g.values }
+    record { present = insert_of g.present k; values = (v.portions + 65536 * v.diet) ∷ g.values }
 
 rows_from : List (List Entry) → List GlobalData
 rows_from [] = []
@@ -99,7 +97,7 @@ passes c =
     let rows = rows_of (rows_from c.rows) in
     let p = close_of c.n c.t c.a rows (process_of_site c.start) in
     let e = c.end in
-    same (closing_number (closing_of c.n c.t c.a rows (process_of_site c.start))) (closing_number e.closing)
+    same (closing_number (Some (closing_of c.n c.t c.a rows (process_of_site c.start)))) (closing_number (Some e.closing))
     and (same_bool (has_decided p) (not (opens_next e.closing))
     and (same p.round e.round
     and (same p.previous e.previous
@@ -118,9 +116,9 @@ agreement t c =
       n = 2;
       t = t;
       a = 0;
-      start = from 1 3 3 0 2 (Value 5 1 ∷ Value 6 0 ∷ []);
-      rows = [] ∷ (Value 5 1 ∷ Value 6 0 ∷ []) ∷ [];
-      end = to c 1 3 3 2 (Value 5 1 ∷ Value 6 0 ∷ []);
+      start = from 1 3 3 0 2 (entry_with 5 1 ∷ entry_with 6 0 ∷ []);
+      rows = [] ∷ (entry_with 5 1 ∷ entry_with 6 0 ∷ []) ∷ [];
+      end = to c 1 3 3 2 (entry_with 5 1 ∷ entry_with 6 0 ∷ []);
     }
 
 -- the sets agree and the arrived row is the new estimate, but its own old one was another: no decision
@@ -130,9 +128,9 @@ own_old =
       n = 2;
       t = 1;
       a = 0;
-      start = from 1 3 3 0 2 (Value 5 1 ∷ Absent ∷ []);
-      rows = [] ∷ (Value 5 1 ∷ Value 6 0 ∷ []) ∷ [];
-      end = to NextRound 2 3 3 2 (Value 5 1 ∷ Value 6 0 ∷ []);
+      start = from 1 3 3 0 2 (entry_with 5 1 ∷ None ∷ []);
+      rows = [] ∷ (entry_with 5 1 ∷ entry_with 6 0 ∷ []) ∷ [];
+      end = to NextRound 2 3 3 2 (entry_with 5 1 ∷ entry_with 6 0 ∷ []);
     }
 
 -- an estimate arrived and its sender is suspected since: it is in the next set, and fills
@@ -142,9 +140,9 @@ suspected_sender =
       n = 2;
       t = 1;
       a = 0;
-      start = from 1 3 3 2 2 (Value 5 1 ∷ Absent ∷ []);
-      rows = [] ∷ (Absent ∷ Value 6 0 ∷ []) ∷ [];
-      end = to NextRound 2 3 3 2 (Value 5 1 ∷ Value 6 0 ∷ []);
+      start = from 1 3 3 2 2 (entry_with 5 1 ∷ None ∷ []);
+      rows = [] ∷ (None ∷ entry_with 6 0 ∷ []) ∷ [];
+      end = to NextRound 2 3 3 2 (entry_with 5 1 ∷ entry_with 6 0 ∷ []);
     }
 
 -- equal estimates, with previous and next differing: no decision
@@ -154,9 +152,9 @@ sets_differ =
       n = 3;
       t = 2;
       a = 0;
-      start = from 2 7 3 4 2 (Value 5 1 ∷ Value 6 0 ∷ Absent ∷ []);
-      rows = [] ∷ (Value 5 1 ∷ Value 6 0 ∷ Absent ∷ []) ∷ [] ∷ [];
-      end = to NextRound 3 3 3 2 (Value 5 1 ∷ Value 6 0 ∷ Absent ∷ []);
+      start = from 2 7 3 4 2 (entry_with 5 1 ∷ entry_with 6 0 ∷ None ∷ []);
+      rows = [] ∷ (entry_with 5 1 ∷ entry_with 6 0 ∷ None ∷ []) ∷ [] ∷ [];
+      end = to NextRound 3 3 3 2 (entry_with 5 1 ∷ entry_with 6 0 ∷ None ∷ []);
     }
 
 -- the sets agree, but in one entry its own estimate and the arrived row differ, in the diet portions alone or in the
@@ -167,9 +165,9 @@ values_differ arrived =
       n = 2;
       t = 1;
       a = 0;
-      start = from 1 3 3 0 2 (Value 5 1 ∷ Value 6 0 ∷ []);
-      rows = [] ∷ (Value 5 1 ∷ arrived ∷ []) ∷ [];
-      end = to NextRound 2 3 3 2 (Value 5 1 ∷ Value 6 0 ∷ []);
+      start = from 1 3 3 0 2 (entry_with 5 1 ∷ entry_with 6 0 ∷ []);
+      rows = [] ∷ (entry_with 5 1 ∷ arrived ∷ []) ∷ [];
+      end = to NextRound 2 3 3 2 (entry_with 5 1 ∷ entry_with 6 0 ∷ []);
     }
 
 -- the value 0 in one row and absent in another: these differ, so no decision, and the entry is 0 and present
@@ -180,8 +178,10 @@ zero_or_absent own =
       t = 2;
       a = 0;
       start = from 1 7 7 0 6 own;
-      rows = [] ∷ (Value 5 0 ∷ Value 0 0 ∷ Value 7 0 ∷ []) ∷ (Value 5 0 ∷ Absent ∷ Value 7 0 ∷ []) ∷ [];
-      end = to NextRound 2 7 7 6 (Value 5 0 ∷ Value 0 0 ∷ Value 7 0 ∷ []);
+      rows =
+          [] ∷ (entry_with 5 0 ∷ entry_with 0 0 ∷ entry_with 7 0 ∷ [])
+          ∷ (entry_with 5 0 ∷ None ∷ entry_with 7 0 ∷ []) ∷ [];
+      end = to NextRound 2 7 7 6 (entry_with 5 0 ∷ entry_with 0 0 ∷ entry_with 7 0 ∷ []);
     }
 
 -- round t + 1 decides, though sets and estimates differ; the decision is not owed to a suspected process
@@ -191,9 +191,9 @@ last_round_case =
       n = 3;
       t = 1;
       a = 0;
-      start = from 2 7 3 4 2 (Value 5 1 ∷ Absent ∷ Absent ∷ []);
-      rows = [] ∷ (Absent ∷ Value 6 0 ∷ Absent ∷ []) ∷ [] ∷ [];
-      end = to LastRound 2 7 3 2 (Value 5 1 ∷ Value 6 0 ∷ Absent ∷ []);
+      start = from 2 7 3 4 2 (entry_with 5 1 ∷ None ∷ None ∷ []);
+      rows = [] ∷ (None ∷ entry_with 6 0 ∷ None ∷ []) ∷ [] ∷ [];
+      end = to LastRound 2 7 3 2 (entry_with 5 1 ∷ entry_with 6 0 ∷ None ∷ []);
     }
 
 -- two rows show an entry that it lacks: the lowest-numbered one whose estimate arrived fills it
@@ -203,16 +203,17 @@ lowest arrived next v =
       n = 3;
       t = 2;
       a = 2;
-      start = from 1 7 7 0 arrived (Absent ∷ Absent ∷ Value 7 0 ∷ []);
-      rows = (Value 8 0 ∷ Absent ∷ Absent ∷ []) ∷ (Value 9 0 ∷ Absent ∷ Absent ∷ []) ∷ [] ∷ [];
-      end = to NextRound 2 7 (insert_of next 2) next (Value v 0 ∷ Absent ∷ Value 7 0 ∷ []);
+      start = from 1 7 7 0 arrived (None ∷ None ∷ entry_with 7 0 ∷ []);
+      rows = (entry_with 8 0 ∷ None ∷ None ∷ []) ∷ (entry_with 9 0 ∷ None ∷ None ∷ []) ∷ [] ∷ [];
+      end = to NextRound 2 7 (insert_of next 2) next (entry_with v 0 ∷ None ∷ entry_with 7 0 ∷ []);
     }
 
 pub table : List Case
 table =
     agreement 1 Agreed ∷ agreement 0 LastRound ∷ own_old ∷ suspected_sender ∷ sets_differ
-    ∷ values_differ (Value 6 2) ∷ values_differ (Value 7 0) ∷ zero_or_absent (Value 5 0 ∷ Value 0 0 ∷ Value 7 0 ∷ [])
-    ∷ zero_or_absent (Value 5 0 ∷ Absent ∷ Value 7 0 ∷ []) ∷ last_round_case
+    ∷ values_differ (entry_with 6 2) ∷ values_differ (entry_with 7 0)
+    ∷ zero_or_absent (entry_with 5 0 ∷ entry_with 0 0 ∷ entry_with 7 0 ∷ [])
+    ∷ zero_or_absent (entry_with 5 0 ∷ None ∷ entry_with 7 0 ∷ []) ∷ last_round_case
     ∷ lowest 3 3 8 ∷ lowest 2 2 9 ∷ []
 
 -- every case passes: the checker computes it from the definitions

@@ -1,13 +1,13 @@
 -- The protocol steps of document 01, 1 to 7, as they change one process. `n` is how many processes there are,
 -- `a` the number of this one, from 0.
-use Rattle.std.specs.Prelude.{[], Bool, not, ℕ, ◌+◌, ◌-◌, get_or, set, replicate}
+use Rattle.std.specs.Prelude.{[], Bool, not, ℕ, ◌+◌, ◌-◌, get_or, set, replicate, Option, Some, None}
 use Rattle.sets.specs.Set.{has, insert_of, remove_of, union_of, intersection_of, difference_of, all_of, empty_set}
 use Rattle.sets.specs.Truth.{◌and◌, ◌or◌, same, less, select}
 use Rattle.global_data.specs.declared.GlobalData.{GlobalData}
 use Rattle.global_data.specs.GlobalData.{no_data, nothing_of, one_of, fill_from, same_to, all_same}
 use Rattle.process.specs.declared.Process.{Process}
 use Rattle.process.specs.declared.Closing.{Closing}
-use Rattle.process.specs.declared.Closing.TheVariants.{None, NextRound, Agreed, LastRound}
+use Rattle.process.specs.declared.Closing.TheVariants.{NextRound, Agreed, LastRound}
 use Rattle.process.specs.Fields.{made, with_round, with_decided, with_previous, with_current}
 use Rattle.process.specs.Fields.{with_suspected, with_outbox, with_estimate, with_received}
 
@@ -84,15 +84,15 @@ unfoldable pub closing_of : ℕ → ℕ → ℕ → (ℕ → GlobalData) → Pro
 closing_of n t a rows p = select (same p.round (t + 1)) LastRound (select (agreed_of n a rows p) Agreed NextRound)
 
 -- its number; 0 where there was no close
-unfoldable pub closing_number : Closing → ℕ
+unfoldable pub closing_number : Option Closing → ℕ
 closing_number None = 0
-closing_number NextRound = 1
-closing_number Agreed = 2
-closing_number LastRound = 3
+closing_number (Some NextRound) = 1
+closing_number (Some Agreed) = 2
+closing_number (Some LastRound) = 3
 
 -- the next round is open
 unfoldable pub opens_next : Closing → Bool
-opens_next c = same (closing_number c) 1
+opens_next c = same (closing_number (Some c)) 1
 
 -- it decides where the next round does not open
 unfoldable pub decides_of : ℕ → ℕ → ℕ → (ℕ → GlobalData) → Process → Bool

@@ -38,10 +38,8 @@ pub struct Process {
 }
 
 // How a round ended (request C-11).
-#[derive(Clone, Copy)]
+#[derive(Clone, Copy, Debug, PartialEq, Eq)]
 pub enum Closing {
-    // there was no close
-    None,
     // the next round is open
     NextRound,
     // decided: the sets and the estimates agree
@@ -59,15 +57,11 @@ pub struct Closed {
 
 impl Closing {
     // The next round is open: the close has not decided.
+    #[tactic(auto, unfolding(crate::specs::Steps::opens_next, crate::specs::Steps::closing_number, sets::specs::Truth::same))]
     fn opens_next(self) -> bool
         ensures { result ≡ opens_next self }
     {
-        match self {
-            Closing::None => false,
-            Closing::NextRound => true,
-            Closing::Agreed => false,
-            Closing::LastRound => false,
-        }
+        matches!(self, Closing::NextRound)
     }
 }
 

@@ -1,228 +1,113 @@
-// Run, by value: a bench stepped by the records of a schedule. The call for one record is in `one_record`,
-// the forms that lend are in `host`.
+// Run: a bench stepped by the records of a schedule, where it lies or by value. The call for one record is in
+// `one_record`, the forms that document 01 names are in `host`.
 #![tactic(auto)]
 
-ghost use Rattle.std.specs.Prelude.{◌≡◌, ◌-◌, ◌<◌, ◌≤◌};
-ghost use Rattle.bench.specs.declared.Cause.TheVariants.{Refused as RefusedRun};
-ghost use Rattle.bench.specs.Refuse.{number_of};
-ghost use Rattle.bench.specs.Calls.{refused, run_of};
-ghost use Rattle.bench.specs.RunLoop.{ended_of};
+mod close;
+mod events;
 
-use bench::{Bench, Cause, Decoded, Ended, Event, Message, Refusal};
-use checks::{close_check, crash_check, message_check, start_check, suspect_check};
-use global_data::fill_words;
+ghost use Rattle.std.specs.Prelude.{◌≡◌, true};
+ghost use Rattle.bench.specs.Sound.{sound_of};
+ghost use Rattle.bench.proofs.RecordLaws.{InRange};
+ghost use Rattle.bench.specs.Closings.{closing_at};
+ghost use Rattle.bench.specs.Refuse.{refuses, refusal};
+ghost use Rattle.bench.specs.RunLoop.{closing_in};
+ghost use Rattle.bench.specs.Calls.{after_record, run_of};
+ghost use Rattle.run.specs.Events.{after_event, verdict_of};
+ghost use Rattle.run.specs.Reached.{reached_by, reached_of};
+
+use bench::{Bench, Cause, Ended, Event};
+use close::close_in;
+use events::{arrive_in, crash_in, send_in, start_in, suspect_in};
 use process::Closing;
 use records::decode;
-use sets::set_within;
-use soundness::parts_sound;
+use refusal::Refusal;
+use soundness::is_sound;
 
-// A run that ends with a refusal.
-fn turned_away(s: Bench, accepted: u32, number: u8, closing: Closing, taken: usize) -> Ended
-    ensures { result ≡ ended_of s accepted (RefusedRun (refused number)) closing taken }
-{
-    Ended {
-        bench: s,
-        accepted,
-        cause: Cause::Refused(Refusal { number }),
-        closing,
-        taken,
+// How far a run came: how many records it accepted, why it ended, how the last round ended that it closed, and how many
+// bytes of the schedule it took.
+#[derive(Clone, Copy)]
+pub struct Reached {
+    pub accepted: u32,
+    pub cause: Cause,
+    pub closing: Option<Closing>,
+    pub taken: usize,
+}
+
+impl Reached {
+    // After so many records.
+    fn after(accepted: u32, cause: Cause, closing: Option<Closing>) -> Reached
+        ensures { result ≡ reached_by accepted cause closing }
+    {
+        Reached {
+            accepted,
+            cause,
+            closing,
+            taken: Bench::RECORD * accepted as usize,
+        }
     }
 }
 
-// The message's number in transit.
-fn number(m: Message) -> usize
-    ensures { result ≡ number_of m }
+// An event of a sound bench; of a close it tells how the round ended.
+fn event_in(s: &mut Bench, e: Event) -> Result<Option<Closing>, Refusal>
+    requires sound { sound_of s.old ≡ true }
+    requires in_range { InRange s.old.n s.old.t e }
+    ensures bench { s.new ≡ after_event e s.old }
+    ensures answer { result ≡ verdict_of (refuses e s.old) (closing_at e s.old) }
 {
-    match m {
-        Message::Estimate { round } => round,
-        Message::Decision => 0,
+    match e {
+        Event::Start { process, value } => start_in(s, process, value)?,
+        Event::Send { process, to } => send_in(s, process, to)?,
+        Event::Arrive { from, to, message } => arrive_in(s, from, to, message)?,
+        Event::Close { process } => return Ok(Some(close_in(s, process)?)),
+        Event::Crash { process } => crash_in(s, process)?,
+        Event::Suspect { process, other } => suspect_in(s, process, other)?,
     }
+    Ok(None)
 }
 
-// The index of a round, from 0.
-fn round_index(round: u8) -> usize
-    requires { (1 ≤ round) × (round ≤ 16) }
-    ensures { (result ≡ round - 1) × (result < 16) }
+// One record of a sound bench.
+fn record_in(s: &mut Bench, bytes: &[u8]) -> Result<Option<Closing>, Refusal>
+    requires { sound_of s.old ≡ true }
+    ensures bench { s.new ≡ after_record s.old bytes.now }
+    ensures answer { result ≡ verdict_of (refusal s.old bytes.now) (closing_in s.old bytes.now) }
 {
-    (round - 1) as usize
+    let e = decode(s.n, s.t, bytes)?;
+    event_in(s, e)
 }
 
-// Any bench: a damaged one is refused, with nothing taken. The state is one local: it is tested and changed where it
-// lies, since a function that took it would copy it.
+// A run of a lent bench. Any bench: a damaged one is refused, with nothing taken.
+pub fn run_in(s: &mut Bench, schedule: &[u8], budget: u32) -> Reached
+    ensures bench { s.new ≡ (run_of budget schedule.now s.old).bench }
+    ensures reached { result ≡ reached_of (run_of budget schedule.now s.old) }
+{
+    let mut accepted = 0;
+    let mut closing = None;
+    if !is_sound(s) {
+        return Reached::after(accepted, Cause::Refused(Refusal::Damaged), closing);
+    }
+    for bytes in schedule.chunks(Bench::RECORD) {
+        if accepted == budget {
+            return Reached::after(accepted, Cause::Spent, closing);
+        }
+        match record_in(s, bytes) {
+            Ok(ended) => closing = ended.or(closing),
+            Err(r) => return Reached::after(accepted, Cause::Refused(r), closing),
+        }
+        accepted += 1;
+    }
+    Reached::after(accepted, Cause::Empty, closing)
+}
+
 pub fn run_bytes(bench: Bench, schedule: &[u8], budget: u32) -> Ended
     ensures { result ≡ run_of budget schedule.now bench }
 {
     let mut s = bench;
-    let processes = s.processes;
-    let words = s.in_transit;
-    if !parts_sound(s.n, s.t, s.crashed, processes, words) {
-        return turned_away(s, 0, 2, Closing::None, 0);
-    }
-    let mut rows = true;
-    let mut k: usize = 0;
-    while k < 256 {
-        let g = s.sent[k];
-        rows = rows & set_within(s.n, g.present);
-        k += 1;
-    }
-    if !rows {
-        return turned_away(s, 0, 2, Closing::None, 0);
-    }
-    let mut at: usize = 0;
-    let mut accepted: u32 = 0;
-    // how the last round ended that was closed
-    let mut closing = Closing::None;
-    while at < schedule.len() {
-        if accepted == budget {
-            return Ended {
-                bench: s,
-                accepted,
-                cause: Cause::Spent,
-                closing,
-                taken: at,
-            };
-        }
-        if schedule.len() - at < 8 {
-            return turned_away(s, accepted, 3, closing, at);
-        }
-        // the record at `from`, and what was accepted before it
-        let from = at;
-        let before = accepted;
-        at = from + 8;
-        accepted = before + 1;
-        let n = s.n as usize;
-        let t = s.t as usize;
-        let crashed = s.crashed;
-        match decode(s.n, s.t, &schedule[from..at]) {
-            Decoded::Refused(r) => {
-                return turned_away(s, before, r.number, closing, from);
-            }
-            Decoded::Got(e) => match e {
-                Event::Start {
-                    process: a,
-                    value: v,
-                } => {
-                    let p = s.processes[a];
-                    let k = start_check(crashed, a, p.round);
-                    if k != 0 {
-                        return turned_away(s, before, k, closing, from);
-                    }
-                    let q = p.start(n, a, v);
-                    let g = q.estimate;
-                    let r = round_index(q.round);
-                    s.processes[a] = q;
-                    s.sent[a * 16 + r] = g;
-                    continue;
-                }
-                Event::Send { process: a, to: b } => {
-                    let p = s.processes[a];
-                    let k = message_check(crashed, a, p.outbox, b);
-                    if k != 0 {
-                        return turned_away(s, before, k, closing, from);
-                    }
-                    let i = a * 17 + p.message();
-                    let word = s.in_transit[i];
-                    s.processes[a] = p.send(b);
-                    s.in_transit[i] = sets::insert(word, b);
-                    continue;
-                }
-                Event::Arrive {
-                    from: a,
-                    to: b,
-                    message: m,
-                } => {
-                    let i = a * 17 + number(m);
-                    let word = s.in_transit[i];
-                    let k = message_check(crashed, b, word, b);
-                    if k != 0 {
-                        return turned_away(s, before, k, closing, from);
-                    }
-                    s.in_transit[i] = sets::remove(word, b);
-                    let p = s.processes[b];
-                    match m {
-                        Message::Estimate { round } => {
-                            s.processes[b] = p.receive(a, round);
-                            continue;
-                        }
-                        Message::Decision => {
-                            let sender = s.processes[a];
-                            let g = sender.estimate;
-                            s.processes[b] = p.adopt(n, b, a, g);
-                            continue;
-                        }
-                    }
-                }
-                Event::Close { process: a } => {
-                    let p = s.processes[a];
-                    let k = close_check(crashed, a, p);
-                    if k != 0 {
-                        return turned_away(s, before, k, closing, from);
-                    }
-                    let r = round_index(p.round);
-                    let next = p.next(a);
-                    // one pass over what the others of the next set sent: an absent entry takes theirs, and each is
-                    // compared with the old estimate. `left` has their bits from the process on whose row is at i
-                    let old = p.old_estimate();
-                    let mut g = old;
-                    let mut marks = old.present;
-                    let mut alike = true;
-                    let mut left = sets::remove(next, a) as usize;
-                    let mut i = r;
-                    while left != 0 {
-                        if left % 2 == 1 {
-                            let row = s.sent[i];
-                            marks = fill_words(&mut g.values, marks, row);
-                            if alike {
-                                alike = row.same(old, n);
-                            }
-                        }
-                        left = left / 2;
-                        i += 16;
-                    }
-                    let c = p.finish(n, t, a, next, alike);
-                    let mut q = c.process;
-                    // g has the words, and the marks are stored after it: g whole, with marks just stored, would be
-                    // read only once they are in memory
-                    q.estimate = g;
-                    q.estimate.present = marks;
-                    closing = c.closing;
-                    s.processes[a] = q;
-                    if q.has_decided() {
-                        continue;
-                    }
-                    let opened = round_index(q.round);
-                    s.sent[a * 16 + opened] = g;
-                    s.sent[a * 16 + opened].present = marks;
-                    continue;
-                }
-                Event::Crash { process: a } => {
-                    let k = crash_check(crashed, a, s.t);
-                    if k != 0 {
-                        return turned_away(s, before, k, closing, from);
-                    }
-                    s.crashed = sets::insert(crashed, a);
-                    continue;
-                }
-                Event::Suspect {
-                    process: a,
-                    other: b,
-                } => {
-                    let p = s.processes[a];
-                    let k = suspect_check(crashed, a, p.suspected, b);
-                    if k != 0 {
-                        return turned_away(s, before, k, closing, from);
-                    }
-                    s.processes[a] = p.suspect(b);
-                    continue;
-                }
-            },
-        }
-    }
+    let r = run_in(&mut s, schedule, budget);
     Ended {
         bench: s,
-        accepted,
-        cause: Cause::Empty,
-        closing,
-        taken: at,
+        accepted: r.accepted,
+        cause: r.cause,
+        closing: r.closing,
+        taken: r.taken,
     }
 }

@@ -22,8 +22,8 @@ use Rattle.bench.specs.Refuse.{refusal}
 use Rattle.bench.specs.Effect.{opens_round, rows_at, sends, arrives, closes_as, effect}
 use Rattle.bench.specs.Calls.{open_of as openBench, event_in, accepted_one, after_events, step_of, after_record}
 use Rattle.bench.specs.OneByOne.{rest_at, record_at, steps}
-use Rattle.text.specs.Text.{digits_of, decimal, field_of, line_of, entry_text, process_text, processes_text}
-use Rattle.simulate.specs.Output.{opening_refusal, unopened, opening_of, records_in, answer_at}
+use Rattle.text.specs.Text.{digits_of, decimal, field_of, line_of, value_text, process_text, processes_text}
+use Rattle.simulate.specs.Output.{opening_refusal, opening_of, records_in, answer_at}
 use Rattle.simulate.specs.Output.{line_at, lines_of, after_all, written_after, output_of}
 
 -- the opening record and the twelve
@@ -61,7 +61,7 @@ output =
     ∷ 84 ∷ 32 ∷ 50 ∷ 32 ∷ 49 ∷ 32 ∷ 49 ∷ 32 ∷ 48 ∷ 32 ∷ 45 ∷ 32 ∷ 50 ∷ 53 ∷ 47 ∷ 48 ∷ 10 ∷ []
 
 pub case4 : output_of input ≡ output
-unfolding input output digits_of decimal field_of line_of entry_text process_text processes_text bit opening_refusal unopened
+unfolding input output digits_of decimal field_of line_of value_text process_text processes_text bit opening_refusal
     opening_of records_in answer_at line_at lines_of after_all written_after output_of joined openBench rest_at record_at
     steps has insert_of remove_of union_of intersection_of difference_of all_of size_of ones ◌and◌ ◌or◌ same less select
     portions_of diet_of entry_of same_entry diet_fits each every nothing_of one_of filled_word fill_of fill_from same_to

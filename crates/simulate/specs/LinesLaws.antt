@@ -1,9 +1,12 @@
 -- Laws of the lines: records taken by runs give the lines of the records one by one.
 -- A run's accepted records have the answer 0, the one that it refuses has the cause's number and leaves the bench as
 -- it is, and the next run begins after it.
-use Rattle.std.specs.Prelude.{◌≡◌, ◌≢◌, true}
+use Rattle.std.specs.Prelude.{◌≡◌, ◌≢◌, true, Option, None}
 use Rattle.std.proofs.Math.Path.{refl, sym, ap}
-use Rattle.std.proofs.Common.{ap₂, ◌∙◌, add-zero, drop-drop}
+use Rattle.std.proofs.Common.{ap₂, ◌∙◌, ◌^◌, add-zero, drop-drop}
+use Rattle.std.specs.Prelude.{Option}
+use Rattle.std.specs.Io.KnownBytes.{Consumes, Appends, IsAtEnd}
+use Rattle.std.proofs.KnownBytes.{Consumes-nil, Consumes-trans, Appends-nil, Appends-trans}
 use mathlib.Core.List.{List, [], ◌∷◌, ◌++◌, append_assoc, append-nil}
 use Prim.Native.Nat.{ℕ, zero, suc, ◌+◌, ◌-◌, ◌*◌, ◌/◌, ◌≤◌, ◌<◌}
 use native.Mathlib.Omega.{arith}
@@ -12,7 +15,8 @@ use Rattle.std.proofs.Math.Seq.{drop_at, take_all}
 use Rattle.std.proofs.lemmas.List.{take-append-le, drop-append-le}
 use Rattle.sets.specs.TruthLaws.{Is, on, off, is}
 use Rattle.process.specs.declared.Closing.{Closing}
-use Rattle.process.specs.declared.Closing.TheVariants.{None}
+use Rattle.refusal.specs.declared.Refusal.{Refusal}
+use Rattle.refusal.specs.Numbers.{refusal_number}
 use Rattle.bench.specs.declared.Bench.{Bench}
 use Rattle.bench.specs.declared.Ended.{Ended}
 use Rattle.bench.specs.declared.Cause.{Cause}
@@ -20,7 +24,7 @@ use Rattle.bench.specs.declared.Cause.TheVariants.{Empty, Spent, Refused}
 use Rattle.bench.specs.Sound.{sound_of}
 use Rattle.bench.specs.Refuse.{refusal}
 use Rattle.bench.proofs.RefuseLaws.{refusal_damaged, refused-keeps}
-use Rattle.bench.specs.Calls.{refused, run_of, after_record}
+use Rattle.bench.specs.Calls.{run_of, after_record}
 use Rattle.bench.specs.RunLoop.{ended_of, run_from}
 use Rattle.sets.specs.Lists.{joined}
 use Rattle.bench.specs.Record.{v2}
@@ -97,12 +101,20 @@ run_some budget l s h b = go (is (sound_of s))
 unfoldable pub cause_text : ℕ → Cause → List ℕ
 cause_text k Empty = []
 cause_text k Spent = []
-cause_text k (Refused r) = line_of k r.number
+cause_text k (Refused r) = line_of k (refusal_number r)
 
 unfoldable pub refused_in : Cause → ℕ
 refused_in Empty = 0
 refused_in Spent = 0
 refused_in (Refused r) = 1
+
+-- neither, where it refused none
+pub none_refused : (c : Cause) → ((r : Refusal) → c ≡ Refused r → ⊥)
+    → (refused_in c ≡ 0) × ((k : ℕ) → cause_text k c ≡ [])
+unfolding refused_in cause_text
+none_refused Empty h = (refl, λ k. refl)
+none_refused Spent h = (refl, λ k. refl)
+none_refused (Refused r) h = absurd (h r refl)
 
 -- the lines of accepted records
 unfoldable pub accepted_text : ℕ → ℕ → List ℕ
@@ -134,7 +146,7 @@ module _ (b : Bench) (first : ℕ) (l : List ℕ) (i : ℕ) where
       line j z = let e : first + (i + j) ≡ first + i + j = omega arith in rw (z, e)
 
   -- no record is refused after them
-  module _ (k t : ℕ) (x : Closing)
+  module _ (k t : ℕ) (x : Option Closing)
       (h : (j : ℕ) → j < k → refusal (steps j (steps i b l) (rest_at i l)) (record_at j (rest_at i l)) ≡ 0)
       (w : 8 * k ≤ length (rest_at i l)) (m : i < records_in l) where
     taken_all : (c : Cause) → refused_in c ≡ 0 → ((n : ℕ) → cause_text n c ≡ []) → 1 ≤ k
@@ -153,9 +165,10 @@ module _ (b : Bench) (first : ℕ) (l : List ℕ) (i : ℕ) where
         }
 
     -- the next one is
-    taken_refused : (r : ℕ) → length (rest_at k (rest_at i l)) ≢ 0
-        → refusal (steps k (steps i b l) (rest_at i l)) (take 8 (rest_at k (rest_at i l))) ≡ r → r ≢ 0
-        → Taken b first l i (ended_of (steps k (steps i b l) (rest_at i l)) k (Refused (refused r)) x t)
+    taken_refused : (r : Refusal) → length (rest_at k (rest_at i l)) ≢ 0
+        → refusal (steps k (steps i b l) (rest_at i l)) (take 8 (rest_at k (rest_at i l))) ≡ refusal_number r
+        → refusal_number r ≢ 0
+        → Taken b first l i (ended_of (steps k (steps i b l) (rest_at i l)) k (Refused r) x t)
     unfolding ended_of records_in refused_in cause_text joined line_at record_at steps
     taken_refused r g e z =
         let y : i + (k + 1) ≡ suc (i + k) = omega arith in
@@ -168,7 +181,7 @@ module _ (b : Bench) (first : ℕ) (l : List ℕ) (i : ℕ) where
           state = sym (steps-add i (k + 1) b l ∙ steps-add k 1 (steps i b l) (rest_at i l) ∙ keeps);
           text =
               rw (y, answer_add i k b l, e, p, accepted_lines k h)
-              (append_assoc (joined i (line_at b first l)) (accepted_text (first + i) k) (line_of (first + i + k) r));
+              (append_assoc (joined i (line_at b first l)) (accepted_text (first + i) k) (line_of (first + i + k) (refusal_number r)));
         }
 
   -- what a run gives from there
@@ -191,7 +204,7 @@ module _ (b : Bench) (first : ℕ) (l : List ℕ) (i : ℕ) where
       go some w Spent y =
           taken_all w.k _ _ w.each_accepted w.within_bytes m Spent refl (λ n. refl) (omega arith)
       go some w (Refused r) y =
-          taken_refused w.k _ _ w.each_accepted w.within_bytes m r.number y.0 y.2 y.3
+          taken_refused w.k _ _ w.each_accepted w.within_bytes m r y.0 y.2 y.3
 
   -- the same, as the code takes the rest of the records
   pub taken_part : (budget : ℕ) (s : Bench) (e : Ended) → 0 < budget → i < records_in l → s ≡ steps i b l
@@ -254,33 +267,66 @@ pub reached_sound : (b s : Bench) → Reached b s → sound_of b ≡ true → so
 unfolding after_all
 reached_sound b s r h = rw r.state (sound_steps (records_in r.bytes) b r.bytes h)
 
--- all the parts so far are whole records, and the next one has the number `first`
-pub record Carried (b s : Bench) (first : ℕ) : Type 0 where
+-- a reader's bytes before and after, and a writer's: all the bytes, of which there are fewer than so many that no run
+-- reads them, and the lines of their records
+pub record Answered (b s : Bench) (before after held written : Option (List ℕ)) : Type 0 where
   pub bytes : List ℕ
-  pub whole : length bytes + 8 ≡ 8 * first
+  pub read : Consumes before after bytes
+  pub all : length bytes < 2 ^ 66 → IsAtEnd after
   pub state : s ≡ after_all b bytes
+  pub lines : Appends held written (lines_of b 1 bytes)
 
-pub carried_none : (b : Bench) → Carried b b 1
-unfolding after_all records_in steps
-carried_none b = record { bytes = []; whole = refl; state = refl }
+pub answered_reached : {b s : Bench} {before after held written : Option (List ℕ)} → Answered b s before after held written
+    → Reached b s
+answered_reached a = record { bytes = a.bytes; state = a.state }
 
-module _ {b s : Bench} {first : ℕ} (c : Carried b s first) (part : List ℕ) (s' : Bench)
-    (e : s' ≡ after_all s part) where
-  carried_state : s' ≡ after_all b (c.bytes ++ part)
-  carried_state =
-      e ∙ ap (λ (s : Bench). after_all s part) c.state
-      ∙ sym (after-append b first (first - 1) c.bytes part (omega (arith, c.whole)))
+-- all the parts so far are whole: each has 8192 bytes, which are 1024 records
+pub record Carried (b s : Bench) (before after held written : Option (List ℕ)) (parts : ℕ) : Type 0 where
+  pub bytes : List ℕ
+  pub whole : length bytes ≡ 8192 * parts
+  pub read : Consumes before after bytes
+  pub state : s ≡ after_all b bytes
+  pub lines : Appends held written (lines_of b 1 bytes)
 
-  pub carried_reached : Reached b s'
-  carried_reached = record { bytes = c.bytes ++ part; state = carried_state }
+pub carried_none : (b : Bench) (before held : Option (List ℕ)) → Carried b b before before held held 0
+unfolding after_all records_in steps lines_of joined
+carried_none b before held =
+    record { bytes = []; whole = refl; read = Consumes-nil before; state = refl; lines = Appends-nil held }
 
-  pub carried_next : length part ≡ 8192 → Carried b s' (first + 1024)
+module _ {b s : Bench} {before after held written : Option (List ℕ)} {parts : ℕ}
+    (c : Carried b s before after held written parts) (part : List ℕ) (s' : Bench) (after' written' : Option (List ℕ))
+    (read : Consumes after after' part) (state : s' ≡ after_all s part)
+    (lines : Appends written written' (lines_of s (parts * 1024 + 1) part)) where
+  whole_records : length c.bytes ≡ 8 * (1024 * parts)
+  whole_records = omega (arith, c.whole)
+
+  read_next : Consumes before after' (c.bytes ++ part)
+  read_next = Consumes-trans before after after' c.bytes part c.read read
+
+  state_next : s' ≡ after_all b (c.bytes ++ part)
+  state_next =
+      state ∙ ap (λ (s : Bench). after_all s part) c.state
+      ∙ sym (after-append b 1 (1024 * parts) c.bytes part whole_records)
+
+  lines_next : Appends held written' (lines_of b 1 (c.bytes ++ part))
+  lines_next =
+      let n : 1 + 1024 * parts ≡ parts * 1024 + 1 = omega arith in
+      rw (lines_append b 1 (1024 * parts) c.bytes part whole_records, n, ← c.state)
+      (Appends-trans held written written' _ _ c.lines lines)
+
+  pub carried_next : length part ≡ 8192 → Carried b s' before after' held written' (parts + 1)
   carried_next h =
       record {
         bytes = c.bytes ++ part;
         whole = omega (arith, c.whole, length-append c.bytes part);
-        state = carried_state;
+        read = read_next;
+        state = state_next;
+        lines = lines_next;
       }
+
+  pub carried_last : IsAtEnd after' → Answered b s' before after' held written'
+  carried_last end =
+      record { bytes = c.bytes ++ part; read = read_next; all = λ h. end; state = state_next; lines = lines_next }
 
 -- ---- the input in parts, of whole records but for the last: what is written part by part,
 -- and the processes then, is what the whole gives

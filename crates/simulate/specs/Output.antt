@@ -1,16 +1,14 @@
 -- What the program writes for any input: the opening record, then the records one by one,
 -- each answered at the bench that the ones before it left, then the processes.
 -- A refused record leaves the bench as it is, and the next one is taken.
-use Rattle.std.specs.Prelude.{List, ◌++◌, ℕ, ◌+◌, ◌/◌, length, get_or, take, drop}
+use Rattle.std.specs.Prelude.{List, ◌++◌, ℕ, ◌+◌, ◌/◌, length, get_or, take, drop, Result, Ok, Err}
 use Rattle.sets.specs.Truth.{◌and◌, same, select, check}
+use Rattle.refusal.specs.declared.Refusal.{Refusal}
+use Rattle.refusal.specs.Numbers.{refusal_number, refused}
 use Rattle.bench.specs.declared.Bench.{Bench}
-use Rattle.bench.specs.declared.Opened.{Opened}
-use Rattle.bench.specs.declared.Answer.{Answer}
-use Rattle.bench.specs.declared.Answer.TheVariants.{Accepted, Refused}
-use Rattle.bench.specs.State.{opened_of}
 use Rattle.bench.specs.Record.{word_of}
 use Rattle.bench.specs.Refuse.{refusal}
-use Rattle.bench.specs.Calls.{refused, open_of}
+use Rattle.bench.specs.Calls.{open_of}
 use Rattle.sets.specs.Lists.{joined}
 use Rattle.bench.specs.OneByOne.{steps, record_at}
 use Rattle.text.specs.Text.{line_of, processes_text}
@@ -22,15 +20,10 @@ opening_refusal l =
     (check (same (get_or l 0 0) 0) 4
     (check (same (get_or l 3 0) 0 and same (word_of (get_or l 4 0) (get_or l 5 0) (get_or l 6 0) (get_or l 7 0)) 0) 5 0))
 
--- refused, the bench is all zero
-unfoldable pub unopened : ℕ → Opened
-unopened k = record { answer = Refused (refused k); bench = opened_of 0 0 }
-
 -- then 1: a is n, and b is t
-unfoldable pub opening_of : List ℕ → Opened
+unfoldable pub opening_of : List ℕ → Result Bench Refusal
 opening_of l =
-    select (same (opening_refusal l) 0) (open_of (get_or l 1 0) (get_or l 2 0))
-    (unopened (opening_refusal l))
+    select (same (opening_refusal l) 0) (open_of (get_or l 1 0) (get_or l 2 0)) (Err (refused (opening_refusal l)))
 
 -- ---- the records: a last part shorter than 8 bytes is one too
 unfoldable pub records_in : List ℕ → ℕ
@@ -52,12 +45,9 @@ unfoldable pub after_all : Bench → List ℕ → Bench
 after_all s l = steps (records_in l) s l
 
 -- ---- the whole output
-unfoldable pub written_after : Opened → List ℕ → List ℕ
-written_after o l = written o.answer
-  where
-    written : Answer → List ℕ
-    written Accepted = lines_of o.bench 1 l ++ processes_text (after_all o.bench l)
-    written (Refused r) = line_of 0 r.number
+unfoldable pub written_after : Result Bench Refusal → List ℕ → List ℕ
+written_after (Ok s) l = lines_of s 1 l ++ processes_text (after_all s l)
+written_after (Err r) l = line_of 0 (refusal_number r)
 
 unfoldable pub output_of : List ℕ → List ℕ
 output_of input = written_after (opening_of (take 8 input)) (drop 8 input)

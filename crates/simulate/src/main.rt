@@ -4,106 +4,77 @@
 
 mod lines;
 mod opening;
+#[cfg(test)]
+mod tests;
 
-ghost use Rattle.std.specs.Prelude.{◌≡◌, true, ◌++◌, ◌*◌, ◌≤◌, ◌^◌, ℕ, IfOk, OnErr, length, take, drop};
-ghost use Rattle.bench.specs.Sound.{sound_of};
-ghost use Rattle.simulate.specs.Output.{lines_of, after_all};
-ghost use Rattle.simulate.specs.LinesLaws.{Reached};
+ghost use Rattle.std.specs.Prelude.{◌^◌, ◌<◌, length, IfSome, IfOk, OnOk};
+ghost use Rattle.std.specs.Io.KnownBytes.{Appends};
+ghost use Rattle.simulate.specs.Output.{output_of};
+ghost use Rattle.simulate.specs.LinesLaws.{Answered};
 
-use crate::lines::lines;
+use crate::lines::write_lines;
 use crate::opening::opening;
-use bench::{Answer, Bench};
+use bench::Bench;
 use reading::read_full;
 use std::io;
-use std::io::Write;
-use text::line::put_line;
-use text::processes::put_processes;
+use std::io::{BufWriter, Read, Write};
+use text::line::Line;
+use text::processes::Processes;
 
-// The bench after the records that were read, and how many bytes they are.
-#[derive(Clone, Copy)]
-struct Turn {
+// Writes the lines of all the records that the input has, and gives the bench after them. The buffer holds 1024
+// records. A proved loop has to end, and nothing says that the input does, so it ends too at a number that no run
+// reaches.
+fn answer_all<R: Read, W: Write>(
+    input: &mut R,
+    out: &mut W,
     bench: Bench,
-    read: usize,
-}
-
-// Fills `input`, which holds whole records, as far as standard input goes, and writes the lines of its
-// records, numbered from `first`. After an error `out` has the lines of a first part of what stands in `input`.
-fn answer_some(
-    rt: HostRuntime,
-    bench: Bench,
-    first: u64,
-    input: &mut [u8],
-    out: &mut [u8],
-) -> io::Result<Turn>
-    requires { (first ≤ 2 ^ 63) × (length input.old ≡ 8192) × (length out.old ≡ 32 * 1024) }
-    ensures read_bound { IfOk result (λ t. t.read ≤ 8192) }
-    ensures bench_value { IfOk result (λ t. t.bench ≡ after_all bench (take t.read input.new)) }
-    ensures out_after { IfOk result (λ t. out.new
-        ≡ lines_of bench first (take t.read input.new)
-        ++ drop (length (lines_of bench first (take t.read input.new))) out.old) }
-    ensures err { OnErr result ((k : ℕ) × (k ≤ 8192) × (out.new
-        ≡ lines_of bench first (take k input.new)
-        ++ drop (length (lines_of bench first (take k input.new))) out.old)) }
+    buffer: &mut [u8; 8192],
+) -> io::Result<Bench>
+    ensures { IfOk result (λ s. Answered bench s
+        (R.remaining input.old) (R.remaining input.new) (W.contents out.old) (W.contents out.new)) }
 {
-    let read = read_full(&mut rt.stdin(), input)?;
-    let r = lines(bench, &input[..read], first, out);
-    let place = r.place;
-    let b = r.bench;
-    rt.stdout().write_all(&out[..place])?;
-    Ok(Turn { bench: b, read })
-}
-
-// Until standard input ends. A proved loop has to end, and nothing says that the input does,
-// so it ends too at a number that no run reaches.
-fn answer_all(rt: HostRuntime, bench: Bench, input: &mut [u8], out: &mut [u8]) -> io::Result<Bench>
-    requires { (length input.old ≡ 8192) × (length out.old ≡ 32 * 1024) }
-    ensures value { IfOk result (Reached bench) }
-    ensures err { OnErr result ((length input.new ≡ length input.old) × (length out.new ≡ length out.old)) }
-{
-    let mut s = bench;
-    let mut first: u64 = 1;
-    while first < 9223372036854775808 {
-        let t = answer_some(rt, s, first, input, out)?;
-        let b = t.bench;
-        s = b;
-        if t.read < 8192 {
-            return Ok(s);
-        }
-        first += 1024;
-    }
-    Ok(s)
-}
-
-// An opened bench: the lines of the records, and then of the processes.
-fn simulate(rt: HostRuntime, bench: Bench, input: &mut [u8], out: &mut [u8]) -> io::Result<()>
-    requires bench_value { sound_of bench ≡ true }
-    requires input_len { (length input.old ≡ 8192) × (length out.old ≡ 32 * 1024) }
-{
-    let s = answer_all(rt, bench, input, out)?;
-    let place = put_processes(s, out);
-    rt.stdout().write_all(&out[..place])
-}
-
-// The opening record, and then either all the others or the one line of its refusal.
-fn open(rt: HostRuntime, input: &mut [u8], out: &mut [u8]) -> io::Result<()>
-    requires { (length input.old ≡ 8192) × (length out.old ≡ 32 * 1024) }
-{
-    let read = read_full(&mut rt.stdin(), &mut input[..8])?;
-    let opened = opening(&input[..read]);
-    let b = opened.bench;
-    let answer = opened.answer;
-    match answer {
-        Answer::Accepted => simulate(rt, b, input, out),
-        Answer::Refused(r) => {
-            let place = put_line(out, 0, 0, r.number);
-            rt.stdout().write_all(&out[..place])
+    let mut bench = bench;
+    for part in 0..1u64 << 53 {
+        let read = read_full(input, buffer)?;
+        bench = write_lines(out, bench, &buffer[..read], part * 1024 + 1)?;
+        out.flush()?;
+        if read < 8192 {
+            break;
         }
     }
+    Ok(bench)
+}
+
+// The opening record, and then either all the others and the processes, or the one line of its refusal.
+// What is written of an input is the output that document 01 gives.
+pub fn simulate<R: Read, W: Write>(
+    input: &mut R,
+    out: &mut W,
+    buffer: &mut [u8; 8192],
+) -> io::Result<()>
+    ensures { OnOk result (IfSome (R.remaining input.old) (λ bytes. length bytes < 2 ^ 66
+        → Appends (W.contents out.old) (W.contents out.new) (output_of bytes))) }
+{
+    let read = read_full(input, &mut buffer[..8])?;
+    match opening(&buffer[..read]) {
+        Ok(opened) => {
+            let bench = answer_all(input, out, opened, buffer)?;
+            write!(out, "{}", Processes { bench: &bench })?;
+        }
+        Err(refusal) => {
+            let line = Line {
+                number: 0,
+                refusal: Some(refusal),
+            };
+            write!(out, "{line}")?;
+        }
+    }
+    out.flush()
 }
 
 // The input's buffer is made whole before reading, and holds 1024 records; the output's has room for their lines.
 fn main(rt: HostRuntime) -> io::Result<()> {
-    let mut input = [0u8; 8192];
-    let mut out = [0u8; 32768];
-    open(rt, &mut input, &mut out)
+    let mut buffer = [0u8; 8192];
+    let mut out = BufWriter::with_capacity(rt.alloc(), 32768, rt.stdout())?;
+    simulate(&mut rt.stdin(), &mut out, &mut buffer)
 }

@@ -1,43 +1,22 @@
 // The opening record: a is n, and b is t.
 ghost use Rattle.std.specs.Prelude.{◌≡◌};
-ghost use Rattle.sets.specs.Truth.{same};
-ghost use Rattle.bench.specs.Record.{word_of};
-ghost use Rattle.simulate.specs.Output.{unopened, opening_of};
+ghost use Rattle.simulate.specs.Output.{opening_of};
 
-use bench::{Answer, Bench, Opened, Refusal};
+use bench::Bench;
+use refusal::Refusal;
 
-fn turned_away(number: u8) -> Opened
-    ensures { result ≡ unopened number }
-{
-    let none = Bench::open(0, 0);
-    let b = none.bench;
-    Opened {
-        answer: Answer::Refused(Refusal { number }),
-        bench: b,
-    }
-}
-
-fn is_zero(a: u8, b: u8, c: u8, d: u8) -> bool
-    ensures { result ≡ same (word_of a b c d) 0 }
-{
-    (a as u32) + (b as u32) * 256 + (c as u32) * 65536 + (d as u32) * 16777216 == 0
-}
-
-// Any bytes. Refused, the bench is all zero.
-pub fn opening(bytes: &[u8]) -> Opened
+// Any bytes.
+pub fn opening(bytes: &[u8]) -> Result<Bench, Refusal>
     ensures { result ≡ opening_of bytes.now }
 {
-    if bytes.len() != 8 {
-        return turned_away(3);
+    let [kind, n, t, r, v0, v1, v2, v3] = *bytes else {
+        return Err(Refusal::Length);
+    };
+    if kind != 0 {
+        return Err(Refusal::Kind);
     }
-    if bytes[0] != 0 {
-        return turned_away(4);
+    if r != 0 || u32::from_le_bytes([v0, v1, v2, v3]) != 0 {
+        return Err(Refusal::Field);
     }
-    if bytes[3] != 0 {
-        return turned_away(5);
-    }
-    if !is_zero(bytes[4], bytes[5], bytes[6], bytes[7]) {
-        return turned_away(5);
-    }
-    Bench::open(bytes[1], bytes[2])
+    Bench::open(n, t)
 }

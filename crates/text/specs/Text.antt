@@ -1,10 +1,11 @@
 -- The text that the program writes (document 01, "Lines are .."): numbers in decimal,
 -- a record's line and a process's line, in ASCII.
-use Rattle.std.specs.Prelude.{Bool, List, [], ◌∷◌, ◌++◌, ℕ, zero, suc, ◌+◌, ◌/◌, ◌%◌}
+use Rattle.std.specs.Prelude.{Bool, Option, None, Some, List, [], ◌∷◌, ◌++◌, ℕ, zero, suc, ◌+◌, ◌/◌, ◌%◌}
 use Rattle.sets.specs.Truth.{bit, less, select}
-use Rattle.global_data.specs.declared.Entry.{Entry}
-use Rattle.global_data.specs.declared.Entry.TheVariants.{Absent, Value}
-use Rattle.global_data.specs.GlobalData.{entry_of}
+use Rattle.refusal.specs.declared.Refusal.{Refusal}
+use Rattle.refusal.specs.Numbers.{refusal_number}
+use Rattle.global_data.specs.declared.Value.{Value}
+use Rattle.global_data.specs.GlobalData.{Entry, entry_of}
 use Rattle.process.specs.declared.Process.{Process}
 use Rattle.process.specs.Steps.{has_decided}
 use Rattle.bench.specs.declared.Bench.{Bench}
@@ -27,14 +28,23 @@ field_of x = (32 ∷ []) ++ decimal x
 abbrev pub newline : List ℕ
 newline = 10 ∷ []
 
+-- 0 where nothing is refused, or the refusal's number
+abbrev pub shown_refusal : Option Refusal → ℕ
+shown_refusal None = 0
+shown_refusal (Some r) = refusal_number r
+
 -- the line of record k: its number, and 0 or the refusal
 unfoldable pub line_of : ℕ → ℕ → List ℕ
 line_of k refusal = decimal k ++ (field_of refusal ++ newline)
 
--- an entry after a space: `-` is an absent one, and `40/3` has 40 portions and 3 diet portions
-unfoldable pub entry_text : Entry → List ℕ
-entry_text Absent = 32 ∷ 45 ∷ []
-entry_text (Value p d) = field_of p ++ ((47 ∷ []) ++ decimal d)
+-- `40/3` has 40 portions and 3 diet portions
+unfoldable pub value_text : Value → List ℕ
+value_text v = decimal v.portions ++ ((47 ∷ []) ++ decimal v.diet)
+
+-- an entry after a space: `-` is an absent one
+abbrev pub entry_text : Entry → List ℕ
+entry_text None = 32 ∷ 45 ∷ []
+entry_text (Some v) = (32 ∷ []) ++ value_text v
 
 -- the line of process a, from 0, of n: `T`, its number from 1, round, stopped, decided,
 -- and the entries of its estimate, which is its decision once it has decided

@@ -1,14 +1,19 @@
--- Laws of the text: a number's digits by its last one, how many there are, and texts stored
--- one after another in a buffer.
-use Rattle.std.specs.Prelude.{◌≡◌, refl, List, [], ◌∷◌, ◌++◌, ℕ, zero, suc, ◌+◌, ◌*◌, ◌/◌, ◌%◌, ◌^◌, ◌≤◌, ◌<◌, length, set}
-use Rattle.std.proofs.Common.{sym, ap, ◌∙◌, ⊎_elim, mul-suc, mul-le-mul_left, add-one, arith, length-append}
+-- Laws of the text: a number's digits by its last one, and that they are what a format writes of the number.
+use Rattle.std.specs.Prelude.{◌≡◌, refl, Bool, true, false, [], ◌∷◌, ◌++◌, ℕ, zero, suc, ◌/◌, ◌+◌, ◌%◌, ◌^◌, ◌≤◌, ◌<◌}
+use Rattle.std.proofs.Common.{sym, ◌∙◌, ⊎_elim, arith, append_assoc}
+use Rattle.std.specs.Int.{from_bool}
+use Rattle.std.specs.Fmt as fmt
+use Rattle.std.proofs.lemmas.Fmt.{decimal_from_appends, length-decimal-le_succ}
 use Rattle.sets.specs.TruthLaws.{select_on, select_off, less_mk, less_off, le-or}
+use Rattle.sets.specs.Truth.{bit}
 use Rattle.sets.specs.Lists.{joined}
-use Rattle.bench.specs.TransitLaws.{Stores}
-use Rattle.bench.proofs.TransitLaws.{stores_none, stores_length, stores_more}
-use Rattle.text.specs.Text.{digits_of, decimal, field_of}
+use Rattle.global_data.specs.GlobalData.{entry_of}
+use Rattle.global_data.specs.declared.Value.{Value}
+use Rattle.process.specs.declared.Process.{Process}
+use Rattle.process.specs.Steps.{has_decided}
+use Rattle.text.specs.Text.{process_text}
+use Rattle.text.specs.Text.{digits_of, decimal, field_of, value_text, entry_text, line_of}
 
--- ---- digits
 digits_low : (k x : ℕ) → x < 10 → digits_of (suc k) x ≡ (48 + x) ∷ []
 unfolding digits_of
 digits_low k x h = select_on _ _ _ (less_mk x 10 h)
@@ -35,69 +40,46 @@ pub decimal_more : (x : ℕ) → 10 ≤ x → decimal x ≡ decimal (x / 10) ++ 
 unfolding decimal
 decimal_more x h = digits_more x x h ∙ rw (enough x (suc (x / 10)) (x / 10) (omega arith) (omega arith))
 
-pub length_more : (x : ℕ) → 10 ≤ x → length (decimal x) ≡ length (decimal (x / 10)) + 1
-length_more x h = ap length (decimal_more x h) ∙ length-append (decimal (x / 10)) ((48 + x % 10) ∷ [])
+-- what `{}` writes of a number of 64 bits
+pub decimal_printed : (x : ℕ) → x < 2 ^ 64 → decimal x ≡ fmt.decimal x
+unfolding decimal
+decimal_printed x h =
+    decimal_from_appends digits_of (record { one = digits_low; more = digits_more }) (suc x) x h
+    (omega (arith, length-decimal-le_succ x h))
 
--- one digit more for each factor of ten
-pub decimal-length : (k x : ℕ) → x < 10 ^ suc k → length (decimal x) ≤ suc k
-decimal-length zero x h = omega (arith, ap length (decimal_low x (omega arith)))
-decimal-length (suc k) x h =
-    ⊎_elim (λ b. omega (arith, length_more x b, decimal-length k (x / 10) (omega arith)))
-    (λ b. omega (arith, ap length (decimal_low x b))) (le-or 10 x)
+pub line_printed : (k r : ℕ) → k < 2 ^ 64 → r < 2 ^ 64
+    → line_of k r ≡ fmt.decimal k ++ (32 ∷ (fmt.decimal r ++ (10 ∷ [])))
+unfolding line_of field_of
+line_printed k r h i = rw (decimal_printed k h, decimal_printed r i)
 
--- ---- one text after another
-pub stores_one : (out : List ℕ) (at b : ℕ) → Stores out at (b ∷ []) (set out at b) (at + 1)
-stores_one out at b = record { place = refl; list = refl }
+pub value_printed : (v : Value) → v.portions < 2 ^ 16 → v.diet < 2 ^ 16
+    → value_text v ≡ fmt.decimal v.portions ++ (47 ∷ fmt.decimal v.diet)
+unfolding value_text
+value_printed v h i = rw (decimal_printed v.portions (omega arith), decimal_printed v.diet (omega arith))
 
--- two of them, as the first two of a joined list
-pair : List ℕ → List ℕ → ℕ → List ℕ
-pair l m zero = l
-pair l m (suc k) = m
+-- of a `bool` as a number
+pub bit_number : (b : Bool) → bit b ≡ from_bool b
+unfolding bit
+bit_number true = refl
+bit_number false = refl
 
-pub stores_then : {out out₁ out₂ l m : List ℕ} {at at₁ at₂ : ℕ} → Stores out at l out₁ at₁ → Stores out₁ at₁ m out₂ at₂
-    → Stores out at (l ++ m) out₂ at₂
-unfolding joined pair
-stores_then {out} {out₁} {out₂} {l} {m} {at} {at₁} {at₂} s t = stores_more (pair l m) out at 1 out₁ at₁ out₂ at₂ s t
+from_bool_small : (b : Bool) → from_bool b < 2 ^ 64
+from_bool_small true = omega arith
+from_bool_small false = omega arith
 
--- a text of at most `most` bytes
-pub record Puts (most : ℕ) (out : List ℕ) (at : ℕ) (l out' : List ℕ) (at' : ℕ) : Type 0 where
-  pub stores : Stores out at l out' at'
-  pub short : at' ≤ at + most
-
-pub puts_length : {most : ℕ} {out l out' : List ℕ} {at at' : ℕ} → Puts most out at l out' at'
-    → length out' ≡ length out
-puts_length {most} {out} {l} {out'} {at} {at'} p = stores_length out at l out' at' p.stores
-
-pub puts_none : (out : List ℕ) (at : ℕ) → Puts 0 out at [] out at
-puts_none out at = record { stores = stores_none out at; short = omega arith }
-
--- a loop's texts f 0, f 1, .. of at most m bytes each
-module _ (m : ℕ) (f : ℕ → List ℕ) {out out₁ : List ℕ} {at at₁ : ℕ} {k : ℕ}
-    (p : Puts (m * k) out at (joined k f) out₁ at₁) where
-  pub puts_more : {out₂ : List ℕ} {at₂ : ℕ} → Puts m out₁ at₁ (f k) out₂ at₂
-      → Puts (m * (k + 1)) out at (joined (k + 1) f) out₂ at₂
-  puts_more {out₂} {at₂} q =
-      record {
-        stores = stores_more f out at k out₁ at₁ out₂ at₂ p.stores q.stores;
-        short = let e : m * (k + 1) ≡ m * k + m = rw add-one (mul-suc m k) in omega (arith, p.short, q.short);
-      }
-
-  -- the next one has room where all have
-  pub puts_room : (n : ℕ) → k < n → at + m * n ≤ length out → at₁ + m ≤ length out₁
-  puts_room n h room =
-      let g : suc k ≤ n = omega arith in
-      omega (arith, p.short, puts_length p, mul-suc m k, mul-le-mul_left m g)
-
--- the digits of a number of 64 bits, of 32 bits and of 16 bits
-pub long_number : (x : ℕ) → x < 2 ^ 64 → length (decimal x) ≤ 20
-long_number x h = decimal-length 19 x (omega arith)
-
-pub short_number : (x : ℕ) → x < 2 ^ 32 → length (decimal x) ≤ 10
-short_number x h = decimal-length 9 x (omega arith)
-
-pub half_number : (x : ℕ) → x < 2 ^ 16 → length (decimal x) ≤ 5
-half_number x h = decimal-length 4 x (omega arith)
-
-pub half_field : (x : ℕ) → x < 2 ^ 16 → length (field_of x) ≤ 6
-unfolding field_of
-half_field x h = omega (arith, length-append (32 ∷ []) (decimal x), half_number x h)
+-- a process's line before its entries, with its number, and the two flags as numbers
+pub process_printed : (n a : ℕ) (crashed : Bool) (p : Process) → a < 2 ^ 8 → p.round < 2 ^ 8
+    → process_text n a crashed p
+    ≡ (84 ∷ 32 ∷ (fmt.decimal (a + 1) ++ (32 ∷ (fmt.decimal p.round ++ (32 ∷ (fmt.decimal (from_bool crashed) ++ (32 ∷ fmt.decimal (from_bool (has_decided p)))))))))
+    ++ (joined n (λ k. entry_text (entry_of p.estimate k)) ++ (10 ∷ []))
+unfolding process_text field_of
+process_printed n a crashed p h i =
+    rw (
+      bit_number crashed,
+      bit_number (has_decided p),
+      decimal_printed (a + 1) (omega arith),
+      decimal_printed p.round (omega arith),
+      decimal_printed (from_bool crashed) (from_bool_small crashed),
+      decimal_printed (from_bool (has_decided p)) (from_bool_small (has_decided p)),
+    )
+    (simp append_assoc)

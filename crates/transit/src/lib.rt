@@ -2,121 +2,120 @@
 // round 0. By round, then by sender, then by receiver: one loop for each.
 #![tactic(auto)]
 
-ghost use Rattle.std.specs.Prelude.{◌≡◌, ℕ, ◌+◌, ◌*◌, ◌^◌, ◌≤◌, ◌<◌, length, get_or};
-ghost use Rattle.sets.specs.Lists.{joined};
-ghost use Rattle.bench.specs.TransitList.{message_bytes, list_of, listed_in};
-ghost use Rattle.bench.specs.TransitLaws.{sender_bytes, round_bytes, Stores};
+ghost use Rattle.std.specs.Prelude.{◌≡◌, true, ◌+◌, ◌*◌, ◌≤◌, ◌<◌, length};
+ghost use Rattle.bench.specs.State.{transit_at};
+ghost use Rattle.bench.specs.Sound.{sound_of};
+ghost use Rattle.bench.specs.TransitList.{message_bytes, transit_bytes, list_of, listed_in};
+ghost use Rattle.bench.specs.TransitLaws.{sender_bytes, round_bytes};
+ghost use Rattle.transit.specs.Counts.{round_count};
+ghost use Rattle.transit.specs.Pages.{Room, Writes};
 
-use bench::{Bench, Listed, Refusal};
-use soundness::is_sound;
+use bench::Bench;
+use refusal::Refusal;
+use sets::{member, size};
+use soundness::ensure_sound;
 
-// Message r of a to b, where it is in transit. Gives the place after it.
-fn put_message(out: &mut [u8], at: usize, words: &[u16], r: u8, a: u8, b: u8) -> usize
-    requires { (r ≤ 16) × (a < 16) × (b < 16) × (length words.now ≡ 272)
-        × (at + length (message_bytes (get_or words.now (a * 17 + r) 0) r a b) ≤ length out.old) }
-    ensures { Stores out.old at (message_bytes (get_or words.now (a * 17 + r) 0) r a b)
-        out.new result }
+// A lent slice, of which `at` bytes are written.
+#[derive(Drop)]
+struct Page<'a> {
+    out: &'a mut [u8],
+    at: usize,
+}
+
+// To whom the message of a round from a process is on its way.
+fn receivers(bench: &Bench, round: u8, from: u8) -> u16
+    requires { (round ≤ 16) × (from < 16) }
+    ensures { result ≡ transit_at bench.now from round }
 {
-    let m = words[(a as usize) * 17 + (r as usize)];
-    if sets::member(m, b as usize) {
-        out[at] = a + 1;
-        out[at + 1] = b + 1;
-        out[at + 2] = r;
-        at + 3
-    } else {
-        at
+    bench.in_transit[usize::from(from) * 17 + usize::from(round)]
+}
+
+impl Page<'_> {
+    // Three bytes.
+    fn put(&mut self, bytes: [u8; 3])
+        requires { Room self.old bytes }
+        ensures { Writes self.old bytes self.new }
+    {
+        let end = self.at + 3;
+        self.out[self.at..end].copy_from_slice(&bytes);
+        self.at = end;
+    }
+
+    // The message of a round from one process to another, where it is in transit.
+    fn put_message(&mut self, bench: &Bench, round: u8, from: u8, to: u8)
+        requires { (round ≤ 16) × (from < 16) × (to < 16)
+            × Room self.old (message_bytes (transit_at bench.now from round) round from to) }
+        ensures { Writes self.old (message_bytes (transit_at bench.now from round) round from to) self.new }
+    {
+        if member(receivers(bench, round, from), usize::from(to)) {
+            self.put([from + 1, to + 1, round]);
+        }
+    }
+
+    // Those to each receiver.
+    fn put_sender(&mut self, bench: &Bench, round: u8, from: u8)
+        requires { (bench.now.n ≤ 16) × (round ≤ 16) × (from < 16)
+            × Room self.old (sender_bytes bench.now.in_transit bench.now.n round from) }
+        ensures { Writes self.old (sender_bytes bench.now.in_transit bench.now.n round from) self.new }
+    {
+        for to in 0..bench.n {
+            self.put_message(bench, round, from, to);
+        }
+    }
+
+    // Those of each sender.
+    fn put_round(&mut self, bench: &Bench, round: u8)
+        requires { (bench.now.n ≤ 16) × (round ≤ 16)
+            × Room self.old (round_bytes bench.now.in_transit bench.now.n round) }
+        ensures { Writes self.old (round_bytes bench.now.in_transit bench.now.n round) self.new }
+    {
+        for from in 0..bench.n {
+            self.put_sender(bench, round, from);
+        }
+    }
+
+    // Those of each round.
+    fn put_all(&mut self, bench: &Bench)
+        requires { (bench.now.n ≤ 16) × (bench.now.t < 16) × Room self.old (transit_bytes bench.now) }
+        ensures { Writes self.old (transit_bytes bench.now) self.new }
+    {
+        for round in 0..bench.t + 2 {
+            self.put_round(bench, round);
+        }
     }
 }
 
-// Message r of a, to each receiver.
-fn put_set(out: &mut [u8], at: usize, n: u8, words: &[u16], r: u8, a: u8) -> usize
-    requires { (n ≤ 16) × (r ≤ 16) × (a < 16) × (length words.now ≡ 272)
-        × (at + length (sender_bytes words.now n r a) ≤ length out.old) }
-    ensures { Stores out.old at (sender_bytes words.now n r a) out.new result }
+// How many messages of a round there are: one for each member of a sender's set.
+fn round_messages(bench: &Bench, round: u8) -> usize
+    requires { (sound_of bench.now ≡ true) × (round ≤ 16) }
+    ensures { result ≡ round_count bench.now round }
 {
-    let mut place = at;
-    let mut b = 0u8;
-    while b < n {
-        place = put_message(out, place, words, r, a, b);
-        b += 1;
-    }
-    place
+    (0..bench.n)
+        .map(|from| size(receivers(bench, round, from)) as usize)
+        .sum()
 }
 
-// Message r of each sender.
-fn put_round(out: &mut [u8], at: usize, n: u8, words: &[u16], r: u8) -> usize
-    requires { (n ≤ 16) × (r ≤ 16) × (length words.now ≡ 272)
-        × (at + length (round_bytes words.now n r) ≤ length out.old) }
-    ensures { Stores out.old at (round_bytes words.now n r) out.new result }
+fn all_messages(bench: &Bench) -> usize
+    requires { sound_of bench.now ≡ true }
+    ensures { (result * 3 ≡ length (transit_bytes bench.now)) × (result ≤ 4352) }
 {
-    let mut place = at;
-    let mut a = 0u8;
-    while a < n {
-        place = put_set(out, place, n, words, r, a);
-        a += 1;
-    }
-    place
-}
-
-// Every message, round by round.
-fn put_all(out: &mut [u8], n: u8, t: u8, words: &[u16]) -> usize
-    requires { (n ≤ 16) × (t < 16) × (length words.now ≡ 272)
-        × (length (joined (t + 2) (round_bytes words.now n)) ≤ length out.old) }
-    ensures { Stores out.old 0 (joined (t + 2) (round_bytes words.now n)) out.new result }
-{
-    let mut place = 0;
-    let mut r = 0u8;
-    while r < t + 2 {
-        place = put_round(out, place, n, words, r);
-        r += 1;
-    }
-    place
-}
-
-// How many messages r there are, of each sender: a message for each member of its set.
-fn round_messages(n: u8, words: &[u16], r: u8) -> usize
-    requires { (n ≤ 16) × (r ≤ 16) × (length words.now ≡ 272) × ((i : ℕ) → get_or words.now i 0 < 2 ^ n) }
-    ensures { (result * 3 ≡ length (round_bytes words.now n r)) × (result ≤ 256) }
-{
-    let mut sum: usize = 0;
-    let mut a = 0u8;
-    while a < n {
-        let m = words[(a as usize) * 17 + (r as usize)];
-        sum += sets::size(m) as usize;
-        a += 1;
-    }
-    sum
-}
-
-fn all_messages(n: u8, t: u8, words: &[u16]) -> usize
-    requires { (n ≤ 16) × (t < 16) × (length words.now ≡ 272) × ((i : ℕ) → get_or words.now i 0 < 2 ^ n) }
-    ensures { (result * 3 ≡ length (joined (t + 2) (round_bytes words.now n))) × (result ≤ 4352) }
-{
-    let mut sum: usize = 0;
-    let mut r = 0u8;
-    while r < t + 2 {
-        sum += round_messages(n, words, r);
-        r += 1;
-    }
-    sum
+    (0..bench.t + 2)
+        .map(|round| round_messages(bench, round))
+        .sum()
 }
 
 // Lists the messages in transit in `out`, by round, sender and receiver, and gives how many there are. Nothing is
 // written where it refuses.
-pub fn in_transit(b: Bench, out: &mut [u8]) -> Listed
+pub fn in_transit(b: Bench, out: &mut [u8]) -> Result<usize, Refusal>
     ensures value { result ≡ list_of b out.old }
     ensures out_after { out.new ≡ listed_in b out.old }
 {
-    if !is_sound(b) {
-        return Listed::Refused(Refusal { number: 2 });
-    }
-    let n = b.n;
-    let t = b.t;
-    let words = b.in_transit;
-    let messages = all_messages(n, t, &words);
+    ensure_sound(&b)?;
+    let messages = all_messages(&b);
     if out.len() < messages * 3 {
-        return Listed::Refused(Refusal { number: 10 });
+        return Err(Refusal::Slice);
     }
-    put_all(out, n, t, &words);
-    Listed::Count(messages)
+    let mut page = Page { out, at: 0 };
+    page.put_all(&b);
+    Ok(messages)
 }

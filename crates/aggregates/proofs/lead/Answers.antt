@@ -1,21 +1,23 @@
--- `lead` answers `lead_of`: the refusal that the checks found, or what is worked of the entries,
--- of which there are then n.
-use mathlib.Core.Path.{◌∙◌, ap}
-use Rattle.aggregates.proofs.Refusals.{turned_away}
-use Rattle.aggregates.specs.Aggregates.{led, lead_of}
+-- `lead` answers `lead_of`: the refusal that the checks found, or what is worked of the entries.
+use mathlib.Core.Path.{sym, ◌∙◌, ap}
+use Rattle.std.proofs.lemmas.Result.{err_from_is_err_and}
+use Rattle.aggregates.specs.Entries.{entry_at}
 use Rattle.aggregates.specs.Leader.{leader_to}
-use Rattle.aggregates.proofs.Accepted.{few, worked}
+use Rattle.aggregates.specs.Aggregates.{led, lead_of}
+use Rattle.aggregates.proofs.Accepted.{worked}
+use Rattle.aggregates.proofs.Refusals.{accepted, turned_away, answered}
 use Rattle.aggregates.proofs.lead.Goals as goal
 
-pub returns-then-number-ne0 : goal.returns-then-number-ne0
+pub returns-in_err-entries : goal.returns-in_err-entries
 unfolding lead_of
-returns-then-number-ne0 c = turned_away _ _ _ c.first_refusal-number.ensures c.if-number-ne0.true
-
-pub find_leader-requires : goal.find_leader-requires
-unfolding lead_of
-find_leader-requires c = few _ _ _ _ _ _ c.first_refusal-number.ensures c.if-number-ne0.false
+returns-in_err-entries c =
+    let p = err_from_is_err_and c.from_residual.result c.from_residual.ensures.1 in
+    rw (p.1, p.2) (sym (turned_away _ _ c.in_err-entries.ensures))
 
 pub returns : goal.returns
 unfolding lead_of
-returns c = worked _ _ _ _ _ _ c.first_refusal-number.ensures c.if-number-ne0.false
-    (λ m e. led (leader_to m e)) _ _ (c.lead_by.ensures ∙ ap led c.find_leader.ensures)
+returns c =
+    let e = c.in_ok-entries.ensures in
+    c.lead_by.ensures
+    ∙ ap led (c.leader.ensures
+    ∙ worked (λ m w k. leader_to m (entry_at w k)) _ e.1 e.2 (accepted _ _ _ _ _ e.0).long) ∙ sym (answered _ e.0)

@@ -1,11 +1,10 @@
 -- An entry is absent in the first decision only where its process crashed before: that decision is one at a close,
 -- which has an entry for every running process, and it stays as it is. By induction along the history.
-use Rattle.std.specs.Prelude.{◌≡◌, ◌⊎◌, ℕ, ◌<◌}
+use Rattle.std.specs.Prelude.{◌≡◌, ◌⊎◌, ℕ, ◌<◌, is_some}
 use Rattle.std.proofs.Common.{sym, ◌∙◌, inl, inr}
 use Rattle.std.proofs.Math.Path.{ap}
 use mathlib.Core.List.{List, [], ◌∷◌, ◌++◌}
 use Rattle.std.proofs.Math.Bool.{true, false}
-use Rattle.std.proofs.Math.Option.{Option-elim}
 use Rattle.sets.specs.Set.{has}
 use Rattle.sets.specs.TruthLaws.{Is, on, off, is, clash, off_by, or_mk_l}
 use Rattle.process.specs.Steps.{has_decided}
@@ -13,7 +12,7 @@ use Rattle.bench.specs.declared.Event.{Event}
 use Rattle.bench.specs.State.{process_at, crashed_at, opened_of}
 use Rattle.bench.specs.Calls.{after_events}
 use Rattle.agreement.specs.Statement.History.{after_history, outcome, before_decision, crashed_in}
-use Rattle.agreement.specs.Histories.Append.{crashed_append, is_decided, before_decided, before_none}
+use Rattle.agreement.specs.Histories.Append.{crashed_append, before_decided, before_none}
 use Rattle.agreement.specs.Histories.Replay.{Next}
 use Rattle.agreement.specs.View.Lasting.{decision_lasts}
 use Rattle.agreement.specs.Invariants.Agreement.{present_at_close, first_is_close}
@@ -41,14 +40,13 @@ first_opened n t x l d = clash _ d ((opened_view n t).decided x)
 
 -- what the history says of a decision
 pub decided_is : (n t : ℕ) (h : List Event) → Told n t h → (x : ℕ)
-    → is_decided (outcome (opened_of n t) h x) ≡ has_decided (process_at (after_history n t h) x)
-unfolding is_decided Option-elim
+    → is_some (outcome (opened_of n t) h x) ≡ has_decided (process_at (after_history n t h) x)
 decided_is n t h T x = go (is (has_decided (process_at (after_history n t h) x)))
   where
     go : Is (has_decided (process_at (after_history n t h) x))
-        → is_decided (outcome (opened_of n t) h x) ≡ has_decided (process_at (after_history n t h) x)
-    go (on d) = ap is_decided (T.outcome_is x ∙ decision_on _ d) ∙ sym d
-    go (off d) = ap is_decided (T.outcome_is x ∙ decision_off _ d) ∙ sym d
+        → is_some (outcome (opened_of n t) h x) ≡ has_decided (process_at (after_history n t h) x)
+    go (on d) = ap is_some (T.outcome_is x ∙ decision_on _ d) ∙ sym d
+    go (off d) = ap is_some (T.outcome_is x ∙ decision_off _ d) ∙ sym d
 
 module _ (n t : ℕ) (h : List Event) (e : Event) (N : Next n t h e) (A : Along n t h) (F : Further n t h e A)
     (T : Told n t h) where

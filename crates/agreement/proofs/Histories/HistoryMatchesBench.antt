@@ -1,17 +1,15 @@
 -- What a history tells is what the bench holds after it: outcomes, rounds, crashes, and the values of the starts.
 -- By induction along the history.
-use Rattle.std.specs.Prelude.{◌≡◌, refl, List, [], ◌∷◌, ◌++◌, ◌⊎◌, ℕ, ◌+◌, ◌≤◌, ◌<◌, get_or}
+use Rattle.std.specs.Prelude.{◌≡◌, refl, List, [], ◌∷◌, ◌++◌, ◌⊎◌, ℕ, ◌+◌, ◌≤◌, ◌<◌, get_or, None, Some}
+use Rattle.std.specs.Option.{option_or}
 use Rattle.std.proofs.Math.Path.{sym, ap, ap₂}
 use Rattle.std.proofs.Common.{◌∙◌, inl, inr, arith}
 use Rattle.std.proofs.Math.Bool.{false}
-use Rattle.std.proofs.Math.Option.{or_else}
 use Rattle.sets.specs.Set.{size_of}
 use Rattle.sets.specs.Laws.{size_empty}
 use Rattle.sets.specs.Truth.{◌or◌, bit}
 use Rattle.sets.specs.TruthLaws.{select_on, same_refl, off_by, or_off_r, le-or}
-use Rattle.global_data.specs.declared.Entry.{Entry}
-use Rattle.global_data.specs.declared.Entry.TheVariants.{Absent}
-use Rattle.global_data.specs.GlobalData.{value_in}
+use Rattle.global_data.specs.GlobalData.{value_in, Entry}
 use Rattle.global_data.proofs.Laws.{or_entry_absent, or_entry_value}
 use Rattle.process.specs.Steps.{has_decided}
 use Rattle.bench.specs.declared.Bench.{Bench}
@@ -36,8 +34,8 @@ use Rattle.agreement.specs.Histories.InvariantsHold.{Along, Further}
 
 -- the start of k, as a history has it: none before its first round, then the value that it sent in that round
 pub record Begun (s : Bench) (k : ℕ) (start : Entry) : Type 0 where
-  pub unstarted : (process_at s k).round ≡ 0 → start ≡ Absent
-  pub started : 1 ≤ (process_at s k).round → start ≡ value_in (get_or (row_of s k 0).values k 0)
+  pub unstarted : (process_at s k).round ≡ 0 → start ≡ None
+  pub started : 1 ≤ (process_at s k).round → start ≡ Some (value_in (get_or (row_of s k 0).values k 0))
 
 pub record Told (n t : ℕ) (h : List Event) : Type 0 where
   pub outcome_is : (x : ℕ) → outcome (opened_of n t) h x ≡ decision_of (process_at (after_history n t h) x)
@@ -76,7 +74,7 @@ start_begins n t h k v N A =
     (sizes_to n t h (λ m u. k < m) N.range) N.passes in
     rw (reached_next n t h (Start k v)) record {
       unstarted = λ z. absurd (omega (arith, S.round));
-      started = λ l. select_on _ _ _ (same_refl k) ∙ ap value_in (sym S.entry);
+      started = λ l. select_on _ _ _ (same_refl k) ∙ ap (λ w. Some (value_in w)) (sym S.entry);
     }
 
 module _ (n t : ℕ) (h : List Event) (e : Event) (N : Next n t h e) (A : Along n t h) (F : Further n t h e A)
@@ -98,7 +96,7 @@ module _ (n t : ℕ) (h : List Event) (e : Event) (N : Next n t h e) (A : Along 
       → outcome (opened_of n t) (h ++ (e ∷ [])) x ≡ decision_of (process_at (after_history n t (h ++ (e ∷ []))) x)
   unfolding outcome decides_for after_history
   outcome-next x =
-      outcome-append (opened_of n t) h (e ∷ []) x ∙ ap₂ or_else (T.outcome_is x) (first_none _)
+      outcome-append (opened_of n t) h (e ∷ []) x ∙ ap₂ option_or (T.outcome_is x) (first_none _)
       ∙ sym (decision_effect e (after_history n t h) A.sized.processes actor_low accepted undecided_first x)
       ∙ ap (λ (s : Bench). decision_of (process_at s x)) (sym (reached_next n t h e))
 
@@ -135,7 +133,9 @@ module _ (n t : ℕ) (h : List Event) (e : Event) (N : Next n t h e) (A : Along 
       record {
         unstarted = λ z. absurd (omega (arith, L.0));
         started =
-            λ u. started_append h (e ∷ []) k ∙ or_entry_value _ _ _ ((T.begun k).started l) ∙ ap value_in (sym L.1);
+            λ u.
+            started_append h (e ∷ []) k ∙ or_entry_value _ _ _ ((T.begun k).started l)
+            ∙ ap (λ w. Some (value_in w)) (sym L.1);
       }
 
   -- before that it starts by this record, or does not
@@ -144,7 +144,7 @@ module _ (n t : ℕ) (h : List Event) (e : Event) (N : Next n t h e) (A : Along 
   start_new k z = go (start_or e (after_history n t h) k accepted)
     where
       go : ((v : ℕ) × (e ≡ Start k v))
-          ⊎ ((started_with (e ∷ []) k ≡ Absent)
+          ⊎ ((started_with (e ∷ []) k ≡ None)
           × ((process_at (after_history n t h) k).round ≡ 0 → opens_for e (after_history n t h) k ≡ 0))
           → Begun (after_history n t (h ++ (e ∷ []))) k (started_with (e ∷ []) k)
       go (inl (v, q)) = rw q (start_begins n t h k v (rw q at N) A)

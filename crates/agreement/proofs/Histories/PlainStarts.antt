@@ -1,7 +1,7 @@
 -- Carrying what a history left is refused by 16 exactly where one of its starts has a value above 65,535. Without one
 -- no entry of the bench is above it, since every event keeps it so; one that was accepted is still what its process
 -- sent in round 1. By induction along the history.
-use Rattle.std.specs.Prelude.{◌≡◌, refl, List, [], ◌∷◌, ◌++◌, Bool, true, false, ℕ, ◌≤◌, ◌<◌}
+use Rattle.std.specs.Prelude.{◌≡◌, refl, Some, List, [], ◌∷◌, ◌++◌, Bool, true, false, ℕ, ◌≤◌, ◌<◌}
 use Rattle.std.proofs.Common.{sym, ◌∙◌, ⊎_elim}
 use Rattle.std.proofs.Math.Path.{ap}
 use native.Mathlib.Omega.{arith}
@@ -9,7 +9,7 @@ use Rattle.sets.specs.Lists.{every_in}
 use Rattle.sets.specs.Truth.{◌and◌, select}
 use Rattle.sets.specs.TruthLaws.{Is, on, off, is, clash, select_on, select_off, and_first, and_second, and_cases}
 use Rattle.sets.specs.TruthLaws.{off_by, same_on, same_refl, less_mk, less-not, le-or}
-use Rattle.global_data.specs.GlobalData.{portions_of, diet_of, value_in, entry_of}
+use Rattle.global_data.specs.GlobalData.{value_in, entry_of}
 use Rattle.global_data.proofs.Laws.{entry_present, not_both, or_entry_absent, or_entry_value}
 use Rattle.bench.specs.declared.Event.{Event}
 use Rattle.bench.specs.declared.Event.TheVariants.{Start, Send, Arrive, Close, Crash, Suspect}
@@ -33,7 +33,7 @@ pub record Large (h : List Event) : Type 0 where
   pub who : ℕ
   pub value : ℕ
   pub exceeds : 65536 ≤ value
-  pub started : started_with h who ≡ value_in value
+  pub started : started_with h who ≡ Some (value_in value)
 
 pub record Starts (n t : ℕ) (h : List Event) : Type 0 where
   pub plain : every_in plain_start h ≡ true → PlainBench (after_history n t h)
@@ -110,14 +110,15 @@ module _ (n t : ℕ) (h : List Event) (e : Event) (N : Next n t h e) (T : Told n
 
 module _ (n t : ℕ) (h : List Event) (A : Along n t h) (T : Told n t h) (S : Starts n t h) where
   -- who has a value has started
-  begun : (k v : ℕ) → started_with h k ≡ value_in v → 1 ≤ (process_at (after_history n t h) k).round
+  begun : (k v : ℕ) → started_with h k ≡ Some (value_in v) → 1 ≤ (process_at (after_history n t h) k).round
   begun k v e = ⊎_elim (λ l. l) no (le-or 1 (process_at (after_history n t h) k).round)
     where
       no : (process_at (after_history n t h) k).round < 1 → 1 ≤ (process_at (after_history n t h) k).round
-      no l = absurd (not_both (started_with h k) (portions_of v) (diet_of v) ((T.begun k).unstarted (omega arith)) e)
+      no l = absurd (not_both (started_with h k) _ ((T.begun k).unstarted (omega arith)) e)
 
   -- what it sent in round 1 has its own entry, the value of its start
-  shown : (k v : ℕ) → started_with h k ≡ value_in v → entry_of (sent_at (after_history n t h) k 1) k ≡ value_in v
+  shown : (k v : ℕ) → started_with h k ≡ Some (value_in v)
+      → entry_of (sent_at (after_history n t h) k 1) k ≡ Some (value_in v)
   unfolding view_of row_of
   shown k v e =
       let p = process_at (after_history n t h) k in

@@ -1,12 +1,13 @@
 -- A close of the bench is one of the view: the next set and the rows put together are read off the
 -- masks and the filled global data.
-use Rattle.std.specs.Prelude.{◌≡◌, refl, ◌≢◌, ◌⊎◌, Bool, true, false, get_or}
+use Rattle.std.specs.Prelude.{◌≡◌, refl, ◌≢◌, Some, ◌⊎◌, Bool, true, false, get_or}
 use Rattle.std.proofs.Math.Path.{sym, ap}
 use Rattle.std.proofs.Common.{◌∙◌}
 use Rattle.std.proofs.Math.Logic.{inl, inr}
 use Rattle.std.proofs.Math.Bool.{not}
 use Prim.Native.Nat.{ℕ, suc, ◌+◌, ◌-◌, ◌≤◌, ◌<◌}
 use native.Mathlib.Omega.{arith}
+use Rattle.std.proofs.lemmas.Option.{same_Some}
 use Rattle.sets.specs.Set.{has}
 use Rattle.sets.specs.Laws.{has_remove, has_low, nothing_in, split_differ}
 use Rattle.sets.specs.Truth.{bit, ◌and◌, ◌or◌, same}
@@ -60,13 +61,13 @@ advanced_at s a = advance_of a (filled_at s a) (process_at s a)
 
 -- ---- entries, by their present bit and their word
 
-value_is : (g : GlobalData) (k v : ℕ) → entry_of g k ≡ value_in v → get_or g.values k 0 ≡ v
-value_is g k v e = value_word _ v (sym (entry_present g k (value_present g k _ _ e)) ∙ e)
+value_is : (g : GlobalData) (k v : ℕ) → entry_of g k ≡ Some (value_in v) → get_or g.values k 0 ≡ v
+value_is g k v e = value_word _ v (same_Some _ _ (sym (entry_present g k (value_present g k _ e)) ∙ e))
 
 entry_has : (g h : GlobalData) (k : ℕ) → entry_of g k ≡ entry_of h k → has g.present k ≡ has h.present k
 entry_has g h k e =
-    by_both _ _ (λ t. value_present h k _ _ (sym e ∙ entry_present g k t))
-    (λ t. value_present g k _ _ (e ∙ entry_present h k t))
+    by_both _ _ (λ t. value_present h k _ (sym e ∙ entry_present g k t))
+    (λ t. value_present g k _ (e ∙ entry_present h k t))
 
 entry_differ : (g h : GlobalData) (k : ℕ) → (entry_of g k ≡ entry_of h k → ⊥)
     → Differ (has g.present k) (get_or g.values k 0) (has h.present k) (get_or h.values k 0)
@@ -76,7 +77,8 @@ entry_differ g h k d = go (is (has g.present k)) (is (has h.present k))
     go : Is (has g.present k) → Is (has h.present k)
         → (has g.present k ≢ has h.present k)
         ⊎ ((has g.present k ≡ true) × (has h.present k ≡ true) × (get_or g.values k 0 ≢ get_or h.values k 0))
-    go (on u) (on v) = inr (u, v, λ e. d (entry_present g k u ∙ ap value_in e ∙ sym (entry_present h k v)))
+    go (on u) (on v) =
+        inr (u, v, λ e. d (entry_present g k u ∙ ap (λ w. Some (value_in w)) e ∙ sym (entry_present h k v)))
     go (on u) (off v) = inl (λ e. clash _ (sym e ∙ u) v)
     go (off u) (on v) = inl (λ e. clash _ (e ∙ v) u)
     go (off u) (off v) = absurd (d (entry_absent g k u ∙ sym (entry_absent h k v)))
@@ -196,15 +198,15 @@ module _ (s : Bench) (c : ℕ → Bool) (K : Bounds s) (B : Basic s.n s.t (view_
   unfolding filled_of
   new-from k e = go (fill_comes (peers_of a p) rows p.estimate 16 k _ (new_low k e) (entry_present new k e))
     where
-      go : (entry_of p.estimate k ≡ value_in (get_or new.values k 0))
+      go : (entry_of p.estimate k ≡ Some (value_in (get_or new.values k 0)))
           ⊎ Lowest (peers_of a p) rows p.estimate 16 k (get_or new.values k 0)
           → RowSource k
-      go (inl u) = inl (value_present p.estimate k _ _ u, sym (value_is p.estimate k _ u))
+      go (inl u) = inl (value_present p.estimate k _ u, sym (value_is p.estimate k _ u))
       go (inr w) =
           let m = peer_on w.who w.member in
           let r = peer_row w.who m.0 m.1 in
-          let u : entry_of (row_of s w.who q) k ≡ value_in (get_or new.values k 0) = rw r w.shows in
-          inr (w.who, m.0, m.1, value_present _ k _ _ u, sym (value_is (row_of s w.who q) k _ u))
+          let u : entry_of (row_of s w.who q) k ≡ Some (value_in (get_or new.values k 0)) = rw r w.shows in
+          inr (w.who, m.0, m.1, value_present _ k _ u, sym (value_is (row_of s w.who q) k _ u))
 
   -- ---- the test: what holds where it passes before the last round, and which part fails
 

@@ -1,8 +1,8 @@
 -- What one event adds to what a history says of a process is what it changes in the bench: outcome, rounds,
 -- start and crash, and how many have crashed. It is read at the process that acts and at the others.
-use Rattle.std.specs.Prelude.{◌≡◌, refl, [], ◌∷◌, Bool, true, false, ◌≢◌, ◌⊎◌, ℕ, ◌+◌, ◌<◌, length}
+use Rattle.std.specs.Prelude.{◌≡◌, refl, [], ◌∷◌, Bool, true, false, ◌≢◌, ◌⊎◌, ℕ, ◌+◌, ◌<◌, length, Option, Some, None}
+use Rattle.std.specs.Option.{option_or, option_map_or}
 use Rattle.std.proofs.Common.{sym, ap, ◌∙◌, inl, inr, arith}
-use Rattle.std.proofs.Math.Option.{Option, none, some, Option-elim, or_else}
 use Rattle.sets.specs.Set.{has, size_of}
 use Rattle.sets.specs.Laws.{has_insert, size_insert}
 use Rattle.sets.specs.Truth.{◌and◌, ◌or◌, same, select, bit}
@@ -10,7 +10,6 @@ use Rattle.sets.specs.TruthLaws.{Is, on, off, is, select_on, select_off, select_
 use Rattle.sets.specs.TruthLaws.{not_on, off_by, or_off_r, same_on, same_mk, same_off, same_refl}
 use Rattle.sets.specs.TruthLaws.{less_on, by_both, eq-or}
 use Rattle.global_data.specs.declared.GlobalData.{GlobalData}
-use Rattle.global_data.specs.declared.Entry.TheVariants.{Absent}
 use Rattle.global_data.specs.GlobalData.{value_in}
 use Rattle.process.specs.declared.Process.{Process}
 use Rattle.process.specs.Steps.{has_decided, takes_part, open_round_of, start_of, keeps, receive_of}
@@ -72,22 +71,22 @@ turned_there (Suspect a b) s x ne = process_there s a x _ ne
 -- ---- outcomes
 -- what a process holds of its decision
 unfoldable pub decision_of : Process → Option GlobalData
-decision_of p = select (has_decided p) (some p.estimate) none
+decision_of p = select (has_decided p) (Some p.estimate) None
 
 decision_same : (p q : Process) → has_decided q ≡ has_decided p → q.estimate ≡ p.estimate
-    → decision_of q ≡ or_else (decision_of p) none
+    → decision_of q ≡ option_or (decision_of p) None
 unfolding decision_of
 decision_same p q d e = rw (d, e) (sym (first_none _))
 
-pub decision_off : (p : Process) → has_decided p ≡ false → decision_of p ≡ none
+pub decision_off : (p : Process) → has_decided p ≡ false → decision_of p ≡ None
 unfolding decision_of
 decision_off p d = select_off _ _ _ d
 
-pub decision_on : (p : Process) → has_decided p ≡ true → decision_of p ≡ some p.estimate
+pub decision_on : (p : Process) → has_decided p ≡ true → decision_of p ≡ Some p.estimate
 unfolding decision_of
 decision_on p d = select_on _ _ _ d
 
-pub decision_got : (p : Process) (g : GlobalData) → decision_of p ≡ some g
+pub decision_got : (p : Process) (g : GlobalData) → decision_of p ≡ Some g
     → (has_decided p ≡ true) × (p.estimate ≡ g)
 decision_got p g e = go (is (has_decided p))
   where
@@ -95,13 +94,12 @@ decision_got p g e = go (is (has_decided p))
     go (on d) = let f = decision_on p d in (d, cc)
     go (off d) = let f = decision_off p d in absurd (let z : ◌≡◌ {A = ℕ} 0 1 = cc in omega arith)
 
-pub decision_none : (p : Process) → decision_of p ≡ none → has_decided p ≡ false
+pub decision_none : (p : Process) → decision_of p ≡ None → has_decided p ≡ false
 decision_none p e = off_by _ (λ d. let f = decision_on p d in let z : ◌≡◌ {A = ℕ} 0 1 = cc in omega arith)
 
 -- an undecided process comes to q, which holds the decision o
 decision_new : (p q : Process) (o : Option GlobalData) → has_decided p ≡ false → decision_of q ≡ o
-    → decision_of q ≡ or_else (decision_of p) o
-unfolding or_else
+    → decision_of q ≡ option_or (decision_of p) o
 decision_new p q o d e = rw (decision_off p d) e
 
 -- a record decides its acting process, and no other
@@ -109,17 +107,17 @@ decides_here : (e : Event) (s : Bench) → decides_for e s (actor e) ≡ decides
 unfolding decides_for
 decides_here e s = select_on _ _ _ (same_refl (actor e))
 
-decides_there : (e : Event) (s : Bench) (x : ℕ) → x ≢ actor e → decides_for e s x ≡ none
+decides_there : (e : Event) (s : Bench) (x : ℕ) → x ≢ actor e → decides_for e s x ≡ None
 unfolding decides_for
 decides_there e s x ne = select_off _ _ _ (same_off (actor e) x (λ w. ne (sym w)))
 
 -- by the test d a process p comes to q, which has decided on g, or to one that holds the same decision as p
 decision_choice : (d : Bool) (p q q' : Process) (g : GlobalData) → (d ≡ true → has_decided p ≡ false)
-    → decision_of q ≡ some g
+    → decision_of q ≡ Some g
     → decision_of q' ≡ decision_of p
-    → decision_of (select d q q') ≡ or_else (decision_of p) (select d (some g) none)
+    → decision_of (select d q q') ≡ option_or (decision_of p) (select d (Some g) None)
 unfolding select
-decision_choice true p q q' g u e f = decision_new p q (some g) (u refl) e
+decision_choice true p q q' g u e f = decision_new p q (Some g) (u refl) e
 decision_choice false p q q' g u e f = f ∙ sym (first_none _)
 
 takes_undecided : (p : Process) → takes_part p ≡ true → has_decided p ≡ false
@@ -133,11 +131,11 @@ takes_started p e z = omega (arith, less_on 0 p.round (and_first _ _ e))
 -- a start is of an undecided process, which `started` says
 decision_turned : (e : Event) (s : Bench) → Passes e s
     → ((process_at s (actor e)).round ≡ 0 → has_decided (process_at s (actor e)) ≡ false)
-    → decision_of (turned e s) ≡ or_else (decision_of (process_at s (actor e))) (decides_at e s)
+    → decision_of (turned e s) ≡ option_or (decision_of (process_at s (actor e))) (decides_at e s)
 unfolding turned actor decides_at passes7 send_of suspect_of receive_of adopt_of close_of decide_of
 decision_turned (Start a v) s A started =
     let d = started (same_on _ 0 A.pass7) in
-    decision_new (process_at s a) (start_of s.n a v (process_at s a)) none d
+    decision_new (process_at s a) (start_of s.n a v (process_at s a)) None d
     (decision_off _ (start_decided (process_at s a) s.n a v ∙ d))
 decision_turned (Send a b) s A started =
     decision_same (process_at s a) (send_of b (process_at s a)) (send_decided (process_at s a) b) refl
@@ -164,8 +162,8 @@ opens_for e s x = select (same (actor e) x) (opens_at e s) 0
 
 -- a close by the test d
 close_round : (d : Bool) (r : ℕ) (q q' : Process) (g : GlobalData) → q.round ≡ r → q'.round ≡ r + 1
-    → (select d q q').round ≡ r + Option-elim (select d (some g) none) 1 (λ f. 0)
-unfolding select Option-elim
+    → (select d q q').round ≡ r + option_map_or (λ f. 0) (select d (Some g) None) 1
+unfolding select
 close_round true r q q' g e f = omega arith
 close_round false r q q' g e f = omega arith
 
@@ -238,9 +236,9 @@ module _ (e : Event) (s : Bench) (z : length s.processes ≡ 16) (low : actor e 
       go (inr w) = rw (turned_there e s x w) (there x w)
 
   pub decision_effect : ((process_at s (actor e)).round ≡ 0 → has_decided (process_at s (actor e)) ≡ false)
-      → (x : ℕ) → decision_of (process_at (effect e s) x) ≡ or_else (decision_of (process_at s x)) (decides_for e s x)
+      → (x : ℕ) → decision_of (process_at (effect e s) x) ≡ option_or (decision_of (process_at s x)) (decides_for e s x)
   decision_effect started =
-      turned-at (λ x p. decision_of p ≡ or_else (decision_of (process_at s x)) (decides_for e s x))
+      turned-at (λ x p. decision_of p ≡ option_or (decision_of (process_at s x)) (decides_for e s x))
       (rw (decides_here e s) (decision_turned e s A started))
       (λ x w. rw (decides_there e s x w) (sym (first_none _)))
 
@@ -259,13 +257,13 @@ select-same false x = refl
 -- a record is the start of k, or starts nobody there and opens no first round
 pub start_or : (e : Event) (s : Bench) (k : ℕ) → Passes e s
     → ((v : ℕ) × (e ≡ Start k v))
-    ⊎ ((started_with (e ∷ []) k ≡ Absent) × ((process_at s k).round ≡ 0 → opens_for e s k ≡ 0))
+    ⊎ ((started_with (e ∷ []) k ≡ None) × ((process_at s k).round ≡ 0 → opens_for e s k ≡ 0))
 unfolding started_with opens_at actor passes7
 start_or (Start a v) s k A = go (eq-or a k)
   where
     go : (a ≡ k) ⊎ (a ≢ k)
         → ((u : ℕ) × (Start a v ≡ Start k u))
-        ⊎ ((select (same a k) (value_in v) Absent ≡ Absent)
+        ⊎ ((select (same a k) (Some (value_in v)) None ≡ None)
         × ((process_at s k).round ≡ 0 → ◌≡◌ {A = ℕ} (select (same a k) 1 0) 0))
     go (inl w) = inl (v, ap (λ (x : ℕ). Start x v) w)
     go (inr w) = inr (select_off _ _ _ (same_off a k w), λ z. select_off _ _ _ (same_off a k w))

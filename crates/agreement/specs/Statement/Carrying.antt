@@ -1,9 +1,8 @@
 -- Carrying a running week over (request C-17), as statements over every list of calls on an opened bench: what it
 -- gives after old calls whose accepted starts have values of at most 65,535; and that demand 3 goes on across it. The
 -- theorems are in ../../proofs, Carrying.antt and Theorem.antt, with what carrying answers after any calls.
-use Rattle.std.specs.Prelude.{◌≡◌, List, [], map, Bool, ℕ}
+use Rattle.std.specs.Prelude.{◌≡◌, List, [], map, Bool, ℕ, Ok}
 use Rattle.std.proofs.Math.Pow.{are_bytes}
-use Rattle.bench.specs.declared.Answer.TheVariants.{Accepted}
 use Rattle.bench.specs.State.{opened_of}
 use Rattle.bench.specs.Record.{v1, v2}
 use Rattle.bench.specs.Carry.{carry_of, rewritten_record, rewritten_schedule}
@@ -35,7 +34,7 @@ pub record Carrying (n t : ℕ) (calls : List Call) : Type 0 where
   -- carrying what the old calls left is accepted, and gives the bench that the same records, rewritten, give a new one
   -- opened alike
   pub carries : carry_of (after_calls (opened_of n t) (map as_old calls))
-      ≡ record { answer = Accepted; bench = after_calls (opened_of n t) (map rewritten calls) }
+      ≡ record { answer = Ok tt; bench = after_calls (opened_of n t) (map rewritten calls) }
   -- and every call gave the same, the bytes that a run left being rewritten
   pub given : map rewritten_rest (answers (opened_of n t) (map as_old calls))
       ≡ answers (opened_of n t) (map rewritten calls)

@@ -1,16 +1,15 @@
 -- Demand 3 as one statement, over every list of calls on an opened bench, each call by the rules of now or by those
 -- before request C-15, mixed in any order. The theorem is in ../../proofs/Theorem.antt.
-use Rattle.std.specs.Prelude.{◌≡◌, ◌≢◌, List, [], ◌++◌, true, false, ℕ, suc, ◌+◌, ◌-◌, ◌*◌, ◌≤◌, ◌<◌, length, drop}
-use Rattle.std.proofs.Math.Option.{none, some, IsSome}
+use Rattle.std.specs.Prelude.{◌≡◌, ◌≢◌, List, [], ◌++◌, true, false, ℕ, suc, ◌+◌, ◌-◌, ◌*◌, ◌≤◌, ◌<◌, length, drop, Some, None, Ok, Err, IsSome}
 use Rattle.std.proofs.Math.Pow.{are_bytes}
 use Rattle.sets.specs.Lists.{each}
 use Rattle.global_data.specs.declared.GlobalData.{GlobalData}
-use Rattle.global_data.specs.declared.Entry.TheVariants.{Absent, Value}
+use Rattle.global_data.specs.declared.Value.{Value}
 use Rattle.global_data.specs.GlobalData.{entry_of, same_to}
 use Rattle.bench.specs.declared.Bench.{Bench}
 use Rattle.bench.specs.declared.Event.{Event}
-use Rattle.bench.specs.declared.Shown.TheVariants.{Marks, Refused}
-use Rattle.bench.specs.Calls.{refused, word_at, show_of, shown_in}
+use Rattle.refusal.specs.declared.Refusal.TheVariants.{Undecided}
+use Rattle.bench.specs.Calls.{word_at, show_of, shown_in}
 use Rattle.bench.specs.State.{opened_of}
 use Rattle.bench.specs.Record.{is_kind, Form}
 use Rattle.bench.specs.Refuse.{refusal_by}
@@ -23,18 +22,18 @@ use Rattle.agreement.specs.Statement.History.{rounds}
 pub record Holds (n t : ℕ) (h : List Event) (s : Bench) : Type 0 where
   -- b: the global data call on that bench, with a long enough slice, shows what x decided on,
   -- exactly where it has decided
-  pub shows : (x : ℕ) (g : GlobalData) (out : List ℕ) → x < n → n ≤ length out → outcome (opened_of n t) h x ≡ some g
-      → (show_of s (suc x) out ≡ Marks g.present) × (shown_in s (suc x) out ≡ each n (word_at g) ++ drop n out)
-  pub hides : (x : ℕ) (out : List ℕ) → x < n → n ≤ length out → outcome (opened_of n t) h x ≡ none
-      → (show_of s (suc x) out ≡ Refused (refused 11)) × (shown_in s (suc x) out ≡ out)
+  pub shows : (x : ℕ) (g : GlobalData) (out : List ℕ) → x < n → n ≤ length out → outcome (opened_of n t) h x ≡ Some g
+      → (show_of s (suc x) out ≡ Ok g.present) × (shown_in s (suc x) out ≡ each n (word_at g) ++ drop n out)
+  pub hides : (x : ℕ) (out : List ℕ) → x < n → n ≤ length out → outcome (opened_of n t) h x ≡ None
+      → (show_of s (suc x) out ≡ Err Undecided) × (shown_in s (suc x) out ≡ out)
   -- c: agreement, of crashed processes too: absent entries, portions and diet portions are the same
-  pub agreement : (x y : ℕ) (g g' : GlobalData) → x < n → y < n → outcome (opened_of n t) h x ≡ some g
-      → outcome (opened_of n t) h y ≡ some g' → same_to n g g' ≡ true
-  -- d: validity: a present entry has the portions p and the diet portions d of that process's start
-  pub validity : (x k p d : ℕ) (g : GlobalData) → x < n → k < n → outcome (opened_of n t) h x ≡ some g
-      → entry_of g k ≡ Value p d → started_with h k ≡ Value p d
+  pub agreement : (x y : ℕ) (g g' : GlobalData) → x < n → y < n → outcome (opened_of n t) h x ≡ Some g
+      → outcome (opened_of n t) h y ≡ Some g' → same_to n g g' ≡ true
+  -- d: validity: a present entry has the portions and the diet portions of that process's start
+  pub validity : (x k : ℕ) (v : Value) (g : GlobalData) → x < n → k < n → outcome (opened_of n t) h x ≡ Some g
+      → entry_of g k ≡ Some v → started_with h k ≡ Some v
   -- e: an absent entry only where that process crashed before the first decision
-  pub absence : (x k : ℕ) (g : GlobalData) → x < n → k < n → outcome (opened_of n t) h x ≡ some g → entry_of g k ≡ Absent
+  pub absence : (x k : ℕ) (g : GlobalData) → x < n → k < n → outcome (opened_of n t) h x ≡ Some g → entry_of g k ≡ None
       → crashed_in (before_decision (opened_of n t) h) k ≡ true
   -- f: how many rounds x has opened: at most t + 1, and by the number of crashes in the history
   pub last_round : (x : ℕ) → x < n → rounds (opened_of n t) h x ≤ t + 1

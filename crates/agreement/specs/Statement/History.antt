@@ -1,17 +1,15 @@
 -- What demand 3 speaks of (document 01): lists of calls, the history that they make,
 -- and what the rules give over a history.
-use Rattle.std.specs.Prelude.{List, [], ◌∷◌, ◌++◌, Bool, false, ℕ, ◌+◌, drop}
-use Rattle.std.proofs.Math.Option.{Option, none, some, Option-elim, or_else}
+use Rattle.std.specs.Prelude.{List, [], ◌∷◌, ◌++◌, Bool, false, ℕ, ◌+◌, drop, ⊤, Option, Some, None, Result}
+use Rattle.std.specs.Option.{option_or, option_map_or}
 use Rattle.sets.specs.Truth.{◌and◌, ◌or◌, same, bit, select}
 use Rattle.global_data.specs.declared.GlobalData.{GlobalData}
-use Rattle.global_data.specs.declared.Entry.{Entry}
-use Rattle.global_data.specs.declared.Entry.TheVariants.{Absent}
-use Rattle.global_data.specs.GlobalData.{value_in}
+use Rattle.global_data.specs.GlobalData.{value_in, Entry}
+use Rattle.refusal.specs.declared.Refusal.{Refusal}
 use Rattle.process.specs.declared.Closing.{Closing}
 use Rattle.process.specs.Steps.{takes_part, filled_of, decides_of}
 use Rattle.bench.specs.declared.Bench.{Bench}
 use Rattle.bench.specs.declared.Counters.{Counters}
-use Rattle.bench.specs.declared.Answer.{Answer}
 use Rattle.bench.specs.declared.Cause.{Cause}
 use Rattle.bench.specs.declared.Message.TheVariants.{Estimate, Decision}
 use Rattle.bench.specs.declared.Event.{Event}
@@ -32,8 +30,8 @@ pub data Call : Type 0 where
 -- what a call hands back besides the bench: the answer, the tally and how the round ended; or how many were
 -- accepted, the cause, how the last round ended that it closed, and the bytes not taken
 pub data Given : Type 0 where
-  stepped : Answer → Counters → Closing → Given
-  ran : ℕ → Cause → Closing → List ℕ → Given
+  stepped : Result ⊤ Refusal → Counters → Option Closing → Given
+  ran : ℕ → Cause → Option Closing → List ℕ → Given
 
 -- ---- the calls as their contracts have them: the bench that a call leaves, and what it gives
 unfoldable pub after_call : Call → Bench → Bench
@@ -85,34 +83,34 @@ ruled n t h (c ∷ calls) = given_by c (after_history n t h) ∷ ruled n t (add_
 -- on what a record decides its acting process, if it does: step 5, a close that decides, or step 7, a decision taken
 -- over
 unfoldable pub decides_at : Event → Bench → Option GlobalData
-decides_at (Start a v) s = none
-decides_at (Send a b) s = none
-decides_at (Arrive a b (Estimate r)) s = none
-decides_at (Arrive a b Decision) s = select (takes_part (process_at s b)) (some (process_at s a).estimate) none
+decides_at (Start a v) s = None
+decides_at (Send a b) s = None
+decides_at (Arrive a b (Estimate r)) s = None
+decides_at (Arrive a b Decision) s = select (takes_part (process_at s b)) (Some (process_at s a).estimate) None
 decides_at (Close a) s =
     let p = process_at s a in
     let rows = rows_at s p.round in
-    select (decides_of s.n s.t a rows p) (some (filled_of a rows p)) none
-decides_at (Crash a) s = none
-decides_at (Suspect a b) s = none
+    select (decides_of s.n s.t a rows p) (Some (filled_of a rows p)) None
+decides_at (Crash a) s = None
+decides_at (Suspect a b) s = None
 
 -- on what x has decided: by the first of its records that decides it
 unfoldable pub outcome : Bench → List Event → ℕ → Option GlobalData
-outcome s [] x = none
-outcome s (e ∷ h) x = or_else (select (same (actor e) x) (decides_at e s) none) (outcome (effect e s) h x)
+outcome s [] x = None
+outcome s (e ∷ h) x = option_or (select (same (actor e) x) (decides_at e s) None) (outcome (effect e s) h x)
 
 -- the records before the first decision, all of them where there is none
 unfoldable pub before_decision : Bench → List Event → List Event
 before_decision s [] = []
-before_decision s (e ∷ h) = Option-elim (decides_at e s) (e ∷ before_decision (effect e s) h) (λ g. [])
+before_decision s (e ∷ h) = option_map_or (λ g. []) (decides_at e s) (e ∷ before_decision (effect e s) h)
 
 -- ---- starts, crashes and rounds in a history
--- the value of the start of k, portions and diet portions; Absent where it has not started
+-- the value of the start of k, portions and diet portions; absent where it has not started
 unfoldable pub started_with : List Event → ℕ → Entry
-started_with [] k = Absent
+started_with [] k = None
 started_with (e ∷ h) k =
     let rest = started_with h k in
-    by_kind (λ a v. select (same a k) (value_in v) rest) (λ a. rest) rest rest e
+    by_kind (λ a v. select (same a k) (Some (value_in v)) rest) (λ a. rest) rest rest e
 
 -- the crash of k stands there
 unfoldable pub crashed_in : List Event → ℕ → Bool
@@ -126,7 +124,7 @@ crash_count (e ∷ h) = bit (is_crash e) + crash_count h
 
 -- how many rounds a record opens at its acting process: round 1 a start, the next a close that does not decide it
 unfoldable pub opens_at : Event → Bench → ℕ
-opens_at e s = by_kind (λ a v. 1) (λ a. Option-elim (decides_at e s) 1 (λ g. 0)) 0 0 e
+opens_at e s = by_kind (λ a v. 1) (λ a. option_map_or (λ g. 0) (decides_at e s) 1) 0 0 e
 
 -- how many rounds x has opened
 unfoldable pub rounds : Bench → List Event → ℕ → ℕ

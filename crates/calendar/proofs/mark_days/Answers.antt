@@ -1,49 +1,66 @@
--- `mark_days` marks the days of every record. The loop's invariant: the first j are well formed, and their days are
--- marked.
-use mathlib.Core.Path.{refl, sym, ◌∙◌, ap}
-use mathlib.Core.Bool.{true, true≢false}
-use Prim.Native.Nat.{◌+◌, ◌-◌}
-use native.Mathlib.Nat.{le_antisymm}
-use native.Mathlib.Numerals.{add-one}
-use borrow.Author.Rules.{rules}
+-- The first records are well formed, and their days are marked.
+use Rattle.std.proofs.Common.{◌≡◌, true, ◌<◌, ◌/◌, length, refl, sym, ◌∙◌, ap, add-one, arith}
+use Rattle.std.proofs.lemmas.Result.{err_from_is_err_and}
 use Rattle.sets.specs.EveryLaws.{every_off, every-suc}
 use Rattle.sets.specs.Lists.{every}
-use Rattle.sets.specs.Truth.{◌and◌, less}
-use Rattle.calendar.specs.Calendar.{periods_in, well_formed, lies}
-use Rattle.calendar.proofs.PassLaws.{mark_none, mark_more}
+use Rattle.sets.specs.Truth.{one_to, same}
+use Rattle.sets.specs.TruthLaws.{one_mk, and_off_l, and_off_r, same_on, same_not, same_mk, same_off}
+use Rattle.calendar.specs.Calendar.{periods_in}
+use Rattle.calendar.proofs.PassLaws.{mark_none, mark_more, record_in, formed_parts}
 use Rattle.calendar.proofs.mark_days.Goals as goal
 
-pub loop-j-init : goal.loop-j-init
+pub returns-then-not-is_empty : goal.returns-then-not-is_empty
+unfolding same
+returns-then-not-is_empty c =
+    let some = same_not (length c.as_chunks.result.1.now) 0 (sym c.if-not-is_empty.ensures) in
+    (refl, and_off_l _ _ (same_off _ 0 (λ e. some (c.as_chunks.ensures.back_len ∙ e))))
+
+pub loop-record-init : goal.loop-record-init
 unfolding every
-loop-j-init c = (search rules, refl, mark_none _ _)
+loop-record-init c = (refl, mark_none _ _)
 
-pub returns-then-not-well_formed : goal.returns-then-not-well_formed
+pub returns-in_err-period : goal.returns-in_err-period
 unfolding periods_in
-returns-then-not-well_formed c =
-    let l = c.loop-j in
-    let e = ap well_formed (sym c.period_at-p.ensures) ∙ sym c.well_formed-in-loop-j.ensures
-    ∙ c.if-not-well_formed.true in
-    record { valid_value = sym (every_off _ _ l.j c.loop-j-test.true e); marked = λ h. absurd (true≢false (sym h)) }
+returns-in_err-period c =
+    let p = err_from_is_err_and c.from_residual.result c.from_residual.ensures.1 in
+    let xs = c.args.calendar.now in
+    let j = c.loop-record.record-index in
+    let l : j < length xs / 8 = omega (arith, c.as_chunks.ensures.front_len) in
+    let e = rw (c.as_chunks.ensures.front, record_in xs j l) at c.in_err-period.ensures.1 in
+    rw (p.1, p.2) (c.in_err-period.ensures.0, and_off_r _ _ (every_off _ _ j l e))
 
-pub slot_of-slot-requires : goal.slot_of-slot-requires
-slot_of-slot-requires c = sym c.well_formed-in-loop-j.ensures ∙ c.if-not-well_formed.false
-
-pub loop-j-preserved : goal.loop-j-preserved
-loop-j-preserved c =
-    let a = c.args in
-    let l = c.loop-j in
-    let r = c.period_at-p.ensures in
-    let w = c.if-not-well_formed.false in
-    let f = ap well_formed (sym r) ∙ sym c.well_formed-in-loop-j.ensures ∙ w in (
-      search rules,
-      rw add-one (every-suc l.j _ l.invariant.1 f),
-      rw (add-one, c.union.ensures, c.slot_of-slot.ensures.0, r)
-          (mark_more a.calendar.now a.monday l.j c.weekdays_in.result l.days f
-          (λ i. c.weekdays_in.ensures i ∙ ap (λ p. less i 5 and lies (a.monday + i) p) r) l.invariant.2),
-    )
+pub overflow_sub-marks : goal.overflow_sub-marks
+overflow_sub-marks c =
+    let h = c.in_ok-period.ensures in rw (ap (λ p. p.site) h.0) (formed_parts _ h.1).low
 
 pub returns : goal.returns
-unfolding periods_in
+unfolding periods_in same
 returns c =
-    let e = le_antisymm c.loop-j.invariant.0 c.loop-j-test.false in
-    record { valid_value = sym (rw e at c.loop-j.invariant.1); marked = λ h. rw e at c.loop-j.invariant.2 }
+    let none = same_on (length c.as_chunks.result.1.now) 0 (sym c.if-not-is_empty.ensures) in
+    let n : c.loop-record.record-index ≡ length c.args.calendar.now / 8 =
+    omega (arith, c.as_chunks.ensures.front_len) in (
+      same_mk _ 0 (sym c.as_chunks.ensures.back_len ∙ none),
+      rw n at c.loop-record.invariant.0,
+      rw n at c.loop-record.invariant.1,
+    )
+
+pub bounds-sites-period : goal.bounds-sites-period
+bounds-sites-period c =
+    let h = c.in_ok-period.ensures in
+    let s = formed_parts _ h.1 in
+    omega (arith, ap (λ p. p.site) h.0, s.low, s.high)
+
+pub loop-record-preserved : goal.loop-record-preserved
+loop-record-preserved c =
+    let a = c.args in
+    let xs = a.calendar.now in
+    let l = c.loop-record in
+    let j = l.record-index in
+    let lt : j < length xs / 8 = omega (arith, c.as_chunks.ensures.front_len) in
+    let d = rw (c.as_chunks.ensures.front, record_in xs j lt) at c.in_ok-period.ensures in
+    let f = formed_parts _ d.1 in
+    let s : one_to 16 c.in_ok-period.period.site ≡ true =
+    one_mk 16 _ (omega (arith, ap (λ p. p.site) d.0, f.low)) (omega (arith, ap (λ p. p.site) d.0, f.high)) in
+    let m =
+    mark_more xs a.monday j c.weekdays.result c.in_ok-period.period l.sites d.0 s c.weekdays.ensures l.invariant.1 in
+    (rw add-one (every-suc j _ l.invariant.0 d.1), rw add-one (rw (← c.with.ensures) at m))

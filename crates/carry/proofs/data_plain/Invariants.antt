@@ -1,5 +1,5 @@
 use mathlib.Core.Path.{◌≡◌}
-use Prim.Native.Nat.{ℕ, ◌≤◌, ◌-◌}
+use Prim.Native.Nat.{ℕ}
 use lib.ListN.{get_or}
 use mathlib.Core.Bool.{Bool, true}
 use Rattle.sets.specs.Lists.{every}
@@ -13,9 +13,4 @@ abbrev pub plain_at : GlobalData → ℕ → Bool
 plain_at g k = select (has g.present k) (less (get_or g.values k 0) 65536) true
 
 abbrev pub invariant-loop-k : goal.invariant-loop-k
-invariant-loop-k l =
-    (l.k ≤ 16) × (l.ok ≡ every l.k (plain_at l.g))
-
-abbrev pub decreases-loop-k : goal.decreases-loop-k
-decreases-loop-k l =
-    16 - l.k
+invariant-loop-k l = l.ok ≡ every l.k (plain_at l.g)

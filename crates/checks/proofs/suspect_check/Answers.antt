@@ -1,13 +1,18 @@
--- The four tests, handed to `first`.
-use mathlib.Core.Path.{ap, ap₂, ◌∙◌}
-use mathlib.Core.Bool.{true, not}
-use Rattle.checks.specs.Checks.{first_failed, suspect_check}
-use Rattle.sets.specs.Tests.{both_are}
+-- By the first test that fails.
+use Rattle.std.proofs.Common.{arith}
+use Rattle.std.proofs.lemmas.Grind.{common_steps}
+use Rattle.sets.specs.Truth.{same, ◌and◌, select, check}
+use Rattle.bench.specs.Calls.{answer_of}
 use Rattle.checks.proofs.suspect_check.Goals as goal
 
+pub returns-then-member : goal.returns-then-member
+unfolding answer_of check select same ◌and◌
+returns-then-member c = grind (arith, common_steps)
+
+pub returns-then-member-2 : goal.returns-then-member-2
+unfolding answer_of check select same ◌and◌
+returns-then-member-2 c = grind (arith, common_steps)
+
 pub returns : goal.returns
-unfolding suspect_check
-returns c =
-    c.first.ensures
-    ∙ ap₂ (λ x y. first_failed x y true true) c.member.ensures
-    (both_are c.member-2.ensures (ap not c.member-3.ensures))
+unfolding answer_of check select same ◌and◌
+returns c = grind (arith, common_steps)

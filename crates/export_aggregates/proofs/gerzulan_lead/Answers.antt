@@ -1,12 +1,15 @@
--- By the answer: what is given is stored, and a refusal leaves the word.
-use mathlib.Core.Path.{refl}
-use Rattle.export_aggregates.specs.Words.{refusal_in, word_in}
+-- The words that are given are the leader's two numbers.
+use Rattle.std.specs.Prelude.{ℕ}
+use Rattle.std.proofs.Common.{rules, ◌∙◌}
+use Rattle.aggregates.specs.declared.Leader.{Leader}
+use Rattle.export_aggregates.specs.WordLaws.{mapped}
 use Rattle.export_aggregates.proofs.gerzulan_lead.Goals as goal
 
-pub returns-in-Lead : goal.returns-in-Lead
-unfolding refusal_in word_in
-returns-in-Lead c = rw (← c.in-Lead.ensures) (refl, refl, refl)
-
-pub returns-in-Refused : goal.returns-in-Refused
-unfolding refusal_in word_in
-returns-in-Refused c = rw (← c.in-Refused.ensures) (refl, refl, refl)
+pub returns : goal.returns
+returns c =
+    let process : Leader → ℕ = λ l. l.process in
+    let portions : Leader → ℕ = λ l. l.portions in
+    let m = mapped portions c.lead-lead.result c.map.result c.args.value.now (search rules) in
+    let k = mapped process c.lead-lead.result c.map-2.result c.args.process.now (search rules) in
+    rw (← c.lead-lead.ensures)
+    (c.put-2.ensures.0 ∙ k.0, c.put-2.ensures.1 ∙ k.1, c.put.ensures.1 ∙ m.1)

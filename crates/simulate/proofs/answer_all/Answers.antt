@@ -1,25 +1,28 @@
--- `answer_all` carries the bench over the parts that it reads.
-use Rattle.std.proofs.Common.{◌∙◌, arith, refl, take, length-take-le}
-use Rattle.simulate.specs.LinesLaws.{carried_none, carried_reached, carried_next}
+use Rattle.std.proofs.Common.{arith}
+use Rattle.std.proofs.KnownBytes.{Appends-kept}
+use Rattle.simulate.specs.LinesLaws.{carried_none, carried_next, carried_last}
+use Rattle.simulate.specs.Output.{records_in}
 use Rattle.simulate.proofs.answer_all.Goals as goal
 
-pub loop-first-init : goal.loop-first-init
-loop-first-init c = (refl, refl, carried_none c.args.bench)
+pub loop-part-init : goal.loop-part-init
+loop-part-init g c = carried_none _ _ _
 
-pub returns-then-t-lt8192-clause-value : goal.returns-then-t-lt8192-clause-value
-returns-then-t-lt8192-clause-value c =
-    let t = c.in_ok-t.t in
-    carried_reached c.loop-first.invariant.2 (take t.read c.answer_some.new.input) t.bench c.in_ok-t.ensures.bench_value
+pub write_lines-requires : goal.write_lines-requires
+unfolding records_in
+write_lines-requires g c = omega (arith, c.in_ok-read.ensures.bound, c.read_full.auto.buf)
 
-pub loop-first-preserved : goal.loop-first-preserved
-loop-first-preserved c =
-    let t = c.in_ok-t.t in
-    let input = c.answer_some.new.input in
-    let k = c.answer_some.auto.input ∙ c.loop-first.invariant.0 in
-    let full =
-    length-take-le t.read input (omega (arith, c.in_ok-t.ensures.read_bound, k, c.requires.0)) in (
-      k,
-      c.answer_some.auto.out ∙ c.loop-first.invariant.1,
-      carried_next c.loop-first.invariant.2 (take t.read input) t.bench c.in_ok-t.ensures.bench_value
-          (omega (arith, full, c.in_ok-t.ensures.read_bound, c.if-t-lt8192.false)),
-    )
+pub loop-part-preserved : goal.loop-part-preserved
+loop-part-preserved g c =
+    let read = c.in_ok-read.ensures in
+    let lines = c.in_ok-bench.ensures in
+    carried_next c.loop-part.invariant _ _ _ _ read.bytes lines.bench_value
+    (Appends-kept _ _ _ _ lines.written c.in_ok-flush.ensures.bytes)
+    (omega (arith, read.bound, c.read_full.auto.buf, c.if-read-lt8192.false))
+
+pub returns-then-read-lt8192 : goal.returns-then-read-lt8192
+returns-then-read-lt8192 g c =
+    let read = c.in_ok-read.ensures in
+    let lines = c.in_ok-bench.ensures in
+    carried_last c.loop-part.invariant _ _ _ _ read.bytes lines.bench_value
+    (Appends-kept _ _ _ _ lines.written c.in_ok-flush.ensures.bytes)
+    (read.end (omega (arith, c.read_full.auto.buf, c.if-read-lt8192.true)))

@@ -1,12 +1,9 @@
--- The parts so far are whole records, s is the bench after them and `first` the number of the next; the buffers keep
--- their lengths.
-use Rattle.std.proofs.Common.{◌≡◌, ◌-◌, length}
+-- The parts so far are whole records, `bench` is the bench after them, and their lines are written.
 use Rattle.simulate.specs.LinesLaws.{Carried}
 use Rattle.simulate.proofs.answer_all.Given as goal
 
-abbrev pub invariant-loop-first : goal.invariant-loop-first
-invariant-loop-first l =
-    (length l.input ≡ length l.initial.input) × (length l.out ≡ length l.initial.out) × Carried l.initial.s l.s l.first
-
-abbrev pub decreases-loop-first : goal.decreases-loop-first
-decreases-loop-first l = 9223372036854775808 - l.first
+abbrev pub invariant-loop-part : goal.invariant-loop-part
+invariant-loop-part g l =
+    Carried l.initial.bench l.bench
+    (g.R.Read.remaining l.initial.input) (g.R.Read.remaining l.input)
+    (g.W.Write.contents l.initial.out) (g.W.Write.contents l.out) l.part

@@ -1,73 +1,36 @@
--- `in_transit` counts first, so that it refuses before it writes; then it stores the whole list at the front.
-use mathlib.Core.Path.{◌≡◌, sym, ap, ◌∙◌}
-use mathlib.Core.Bool.{true}
-use Prim.Native.Nat.{◌*◌, ◌/◌, ◌≤◌}
-use native.Mathlib.Omega.{arith}
-use lib.ListN.{length}
-use borrow.Author.Rules.{rules}
-use Rattle.bench.specs.declared.Listed.TheVariants.{Count}
-use Rattle.bench.specs.TransitList.{transit_bytes}
-use Rattle.bench.specs.CallLaws.{list_damaged, list_short, list_fits, list_refused, list_listed}
-use Rattle.bench.specs.Sound.{sound_of}
+-- `in_transit` counts first, so that it refuses before it writes; then it writes the whole list at the front.
+use Rattle.std.proofs.Common.{◌≡◌, true, false, ◌/◌, length, arith, rules}
+use Rattle.std.proofs.lemmas.Result.{err_from_is_err_and}
+use Rattle.sets.specs.Truth.{same, less, select, check}
+use Rattle.sets.specs.TruthLaws.{less_mk, less_off}
+use Rattle.bench.specs.TransitList.{transit_bytes, list_refusal, list_of, listed_in}
 use Rattle.bench.proofs.SoundLaws.{sound_on}
-use Rattle.bench.proofs.TransitLaws.{transit_by, stores_front}
-use Rattle.transit.proofs.in_transit.Goals.{After-all_messages-messages, Else-not-is_sound}
+use Rattle.bench.proofs.TransitLaws.{stores_front}
 use Rattle.transit.proofs.in_transit.Goals as goal
 
-pub returns-then-not-is_sound : goal.returns-then-not-is_sound
-returns-then-not-is_sound c =
-    let a = c.args in
-    let r = list_refused a.b a.out.now 1
-    (list_damaged a.b a.out.now
-    (sym c.is_sound.ensures ∙ c.if-not-is_sound.true)) in
-    record { value = sym r.0; out_after = sym r.1 }
-
--- past the check of damage
-sound : (c : Else-not-is_sound) → sound_of c.args.b ≡ true
-sound c = sym c.is_sound.ensures ∙ c.if-not-is_sound.false
-
--- three times the sum is the list's length
-measured : (c : After-all_messages-messages)
-    → c.all_messages-messages.result * 3 ≡ length (transit_bytes c.args.b)
-measured c =
-    let b = c.args.b in
-    c.all_messages-messages.ensures.0 ∙ ap length (sym (transit_by b))
-
-pub all_messages-messages-requires : goal.all_messages-messages-requires
-all_messages-messages-requires c =
-    let b = c.args.b in
-    let s = sound_on b (sound (goal.at.all_messages-messages-requires c).Else-not-is_sound) in
-    (omega (arith, s.few), omega (arith, s.few, s.limit), search rules, s.transit)
+pub returns-in_err-ensure_sound : goal.returns-in_err-ensure_sound
+unfolding list_of listed_in list_refusal check select same
+returns-in_err-ensure_sound c =
+    let p = err_from_is_err_and c.from_residual.result c.from_residual.ensures.1 in
+    let e = c.in_err-ensure_sound.ensures in
+    record { value = rw (p.1, p.2, e.0, e.1); out_after = rw e.1 }
 
 pub returns-then-out-messages : goal.returns-then-out-messages
+unfolding list_of listed_in list_refusal check select same
 returns-then-out-messages c =
-    let a = c.args in
-    let r = list_refused a.b a.out.now 9
-    (list_short a.b a.out.now (sound (goal.at.returns-then-out-messages c).Else-not-is_sound)
-    (omega (arith, c.if-out-messages.true, measured (goal.at.returns-then-out-messages c).After-all_messages-messages))) in
-    record { value = sym r.0; out_after = sym r.1 }
+    let s = c.in_ok-ensure_sound.ensures in
+    let l : less (length c.args.out.now) (length (transit_bytes c.args.b)) ≡ true = less_mk _ _ (omega arith) in
+    record { value = rw (s, l); out_after = rw (s, l) }
 
 pub put_all-requires : goal.put_all-requires
 put_all-requires c =
-    let b = c.args.b in
-    let s = sound_on b (sound (goal.at.put_all-requires c).Else-not-is_sound) in (
-      omega (arith, s.few),
-      omega (arith, s.few, s.limit),
-      search rules,
-      omega (arith, c.all_messages-messages.ensures.0, c.if-out-messages.false),
-    )
+    let s = sound_on c.args.b c.in_ok-ensure_sound.ensures in
+    (omega (arith, s.few), omega (arith, s.few, s.limit), omega arith)
 
 pub returns : goal.returns
+unfolding list_of listed_in list_refusal check select same
 returns c =
-    let a = c.args in
-    let room : length (transit_bytes a.b) ≤ length a.out.now =
-    omega (arith, c.if-out-messages.false, measured (goal.at.returns c).After-all_messages-messages) in
-    let r =
-    list_listed a.b a.out.now (list_fits a.b a.out.now (sound (goal.at.returns c).Else-not-is_sound) room) in
-    let p = c.put_all in
-    let m : c.all_messages-messages.result ≡ length (transit_bytes a.b) / 3 = omega (arith, measured (goal.at.returns c).After-all_messages-messages) in
-    record {
-      value = ap Count m ∙ sym r.0;
-      out_after =
-          stores_front a.out.now (transit_bytes a.b) p.new.out p.result room (rw (transit_by a.b) p.ensures) ∙ sym r.1;
-    }
+    let s = c.in_ok-ensure_sound.ensures in
+    let l : less (length c.args.out.now) (length (transit_bytes c.args.b)) ≡ false = less_off _ _ (omega arith) in
+    let m : c.all_messages-messages.result ≡ length (transit_bytes c.args.b) / 3 = omega arith in
+    record { value = rw (s, l, m); out_after = rw (s, l) (let f = stores_front c.args.out.now (transit_bytes c.args.b) c.put_all.new.self.out.now c.put_all.new.self.at (omega arith) c.put_all.ensures.stored in search rules) }

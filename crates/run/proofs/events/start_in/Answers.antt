@@ -1,0 +1,29 @@
+-- By the check's answer: refused, nothing is stored; accepted, what is stored is the effect.
+use Rattle.std.proofs.Common.{arith}
+use Rattle.std.proofs.lemmas.Result.{err_from_is_err_and}
+use Rattle.bench.specs.State.{process_at}
+use Rattle.run.specs.Turns.{stays, goes, same_answer, refuses_start, start_round, effect_start}
+use Rattle.run.proofs.events.start_in.Goals as goal
+
+pub returns-in_err-start_check-clause-bench : goal.returns-in_err-start_check-clause-bench
+unfolding process_at
+returns-in_err-start_check-clause-bench c = stays _ _ _ (refuses_start _ _ _) _ c.in_err-start_check.ensures
+
+pub returns-in_err-start_check-clause-answer : goal.returns-in_err-start_check-clause-answer
+unfolding process_at
+returns-in_err-start_check-clause-answer c =
+    let p = err_from_is_err_and c.from_residual.result c.from_residual.ensures.1 in
+    rw (p.1, p.2) (same_answer _ _ _ (refuses_start _ _ _) _ c.in_err-start_check.ensures)
+
+pub row_index-requires : goal.row_index-requires
+row_index-requires c = omega (arith, c.requires, start_round _ _ _ _ _ c.start-q.ensures)
+
+pub returns-clause-bench : goal.returns-clause-bench
+unfolding process_at
+returns-clause-bench c =
+    goes _ _ _ (refuses_start _ _ _) c.in_ok-start_check.ensures _
+    (effect_start _ _ _ _ _ c.row_index.ensures.0 c.start-q.ensures)
+
+pub returns-clause-answer : goal.returns-clause-answer
+unfolding process_at
+returns-clause-answer c = same_answer _ _ _ (refuses_start _ _ _) _ c.in_ok-start_check.ensures

@@ -1,0 +1,2 @@
+mod CountLaws
+mod PageLaws

@@ -2,7 +2,7 @@
 // on it.
 #![tactic(auto)]
 
-ghost use Rattle.std.specs.Prelude.{◌≡◌, ℕ, ◌<◌, ◌≤◌, length};
+ghost use Rattle.std.specs.Prelude.{◌≡◌, ℕ, ◌<◌, ◌≤◌};
 ghost use Rattle.global_data.specs.Rows.{Gives};
 ghost use Rattle.global_data.specs.declared.GlobalData.{GlobalData};
 ghost use Rattle.global_data.specs.GlobalData.{rows_of};
@@ -187,13 +187,6 @@ impl Process {
         ensures { result ≡ next_of a self }
     {
         sets::intersection(self.current, self.arrived(a))
-    }
-
-    // Its own old estimate. That it has sixteen words is known where the process is a parameter.
-    pub fn old_estimate(self) -> GlobalData
-        ensures { (result ≡ self.estimate) × (length result.values ≡ 16) }
-    {
-        self.estimate
     }
 
     // How the round ends, where `next` is the next set and `alike` says whether no estimate of that set differs from

@@ -12,13 +12,11 @@ use Rattle.sets.specs.Truth.{select, same, ◌or◌}
 use Rattle.sets.specs.TruthLaws.{and_first, Is, on, off, is, clash, select_on, select_off, check-zero, same_on, same_off, same_not, same_mk, le-or}
 use Rattle.global_data.specs.declared.GlobalData.{GlobalData}
 use Rattle.global_data.specs.GlobalData.{no_data, fill_from, all_same}
-use Rattle.global_data.proofs.PassLaws.{Passing}
 use Rattle.process.specs.declared.Process.{Process}
 use Rattle.process.specs.declared.Closing.{Closing}
 use Rattle.process.specs.Laws.{decide_decided, open_round}
 use Rattle.process.specs.Fields.{with_estimate}
 use Rattle.process.specs.ClosingLaws.{closing_by, finish_of}
-use Rattle.process.proofs.ClosingLaws.{close_passed}
 use Rattle.process.specs.Steps.{has_decided, open_round_of, start_of, next_of, filled_of, closing_of}
 use Rattle.process.specs.Steps.{decides_of, advance_of, close_of, message_of, send_of, suspect_of, receive_of, adopt_of}
 use Rattle.refusal.specs.declared.Refusal.{Refusal}

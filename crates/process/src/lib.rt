@@ -2,7 +2,7 @@
 // on it.
 #![tactic(auto)]
 
-ghost use Rattle.std.specs.Prelude.{◌≡◌, ℕ, ◌<◌, ◌≤◌, length};
+ghost use Rattle.std.specs.Prelude.{◌≡◌, ℕ, ◌<◌, ◌≤◌};
 ghost use Rattle.global_data.specs.Rows.{Gives};
 ghost use Rattle.global_data.specs.declared.GlobalData.{GlobalData};
 ghost use Rattle.global_data.specs.GlobalData.{rows_of};
@@ -75,12 +75,12 @@ fn word_with(m: u16, put: bool, y: usize) -> u16
 
 // The sets, with y in the one at `at`; at 16 there is none. Each is written, since a store at an index that is known
 // late makes the next read wait.
-fn words_with(mut words: [u16; 16], at: usize, y: usize) -> [u16; 16]
+fn words_with(mut words: [u16; 16], at: u16, y: usize) -> [u16; 16]
     requires { y < 16 }
     ensures { result ≡ words_with words at y }
 {
     for (i, word) in words.iter_mut().enumerate() {
-        *word = word_with(*word, at == i, y);
+        *word = word_with(*word, at == i as u16, y);
     }
     words
 }
@@ -129,20 +129,17 @@ impl Process {
     }
 
     // Step 1: it starts with a value, and round 1 opens.
-    pub fn start(self, n: usize, a: usize, value: u32) -> Process
+    pub fn start(mut self, n: usize, a: usize, value: u32) -> Process
         requires n_bound { n ≤ 16 }
         requires a_bound { a < 16 }
         ensures { result ≡ start_of n a value self }
     {
         let all = sets::all(n);
-        let opening = Process {
-            round: 0,
-            previous: all,
-            current: sets::difference(all, self.suspected),
-            estimate: GlobalData::one(a, value),
-            ..self
-        };
-        opening.open_round(a)
+        self.round = 0;
+        self.previous = all;
+        self.current = sets::difference(all, self.suspected);
+        self.estimate = GlobalData::one(a, value);
+        self.open_round(a)
     }
 
     // Whether an estimate of round r from y is kept.
@@ -160,7 +157,7 @@ impl Process {
         requires le_r { (1 ≤ r) × (r ≤ 16) }
         ensures { result ≡ receive_of y r self }
     {
-        let at = if self.keeps(y, r) { r - 1 } else { 16 };
+        let at = if self.keeps(y, r) { (r - 1) as u16 } else { 16 };
         self.received = words_with(self.received, at, y);
         self
     }
@@ -190,13 +187,6 @@ impl Process {
         ensures { result ≡ next_of a self }
     {
         sets::intersection(self.current, self.arrived(a))
-    }
-
-    // Its own old estimate. That it has sixteen words is known where the process is a parameter.
-    pub fn old_estimate(self) -> GlobalData
-        ensures { (result ≡ self.estimate) × (length result.values ≡ 16) }
-    {
-        self.estimate
     }
 
     // How the round ends, where `next` is the next set and `alike` says whether no estimate of that set differs from

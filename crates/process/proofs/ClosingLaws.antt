@@ -2,7 +2,7 @@
 -- which one pass over the estimates decides. The next round opens exactly where the process is then undecided. By the
 -- two tests, and by what a close leaves.
 use Rattle.std.specs.Prelude.{◌≡◌, Bool, false, ℕ, ◌+◌, ◌≤◌}
-use Rattle.std.proofs.Math.Path.{ap}
+use Rattle.std.proofs.Math.Path.{refl, ap}
 use Rattle.std.proofs.Common.{sym, ◌∙◌}
 use Rattle.std.proofs.Math.Bool.{not}
 use Rattle.sets.specs.Set.{remove_of}
@@ -10,7 +10,7 @@ use Rattle.sets.specs.Truth.{◌and◌, same, select}
 use Rattle.sets.specs.TruthLaws.{Is, on, off, is, not_on, not_off, select_on, select_off, same_mk}
 use Rattle.global_data.specs.declared.GlobalData.{GlobalData}
 use Rattle.global_data.specs.GlobalData.{fill_from, all_same}
-use Rattle.global_data.proofs.PassLaws.{one_pass}
+use Rattle.global_data.proofs.PassLaws.{one_pass, Passing, passing_done}
 use Rattle.process.specs.declared.Process.{Process}
 use Rattle.process.specs.declared.Closing.{Closing}
 use Rattle.process.specs.declared.Closing.TheVariants.{NextRound, Agreed, LastRound}
@@ -59,6 +59,14 @@ module _ (n t a : ℕ) (rows : ℕ → GlobalData) (p : Process) where
           rw (k.0, v, f, u) (sym (finish_close few)),
           k.1 ∙ rw (f, u) (sym (closing_once few)),
         )
+
+  -- the same by the invariant of a pass that goes process by process
+  pub close_passed : (next seen : ℕ) (g : GlobalData) (alike : Bool) (q : Process) (x : Closing) → next ≡ next_of a p
+      → Passing n (remove_of next a) rows p.estimate seen 0 g alike → n ≤ 16
+      → (q ≡ finish_of n t a next alike p) × (x ≡ closing_by t next alike p)
+      → (with_estimate g q ≡ close_of n t a rows p) × (x ≡ closing_of n t a rows p)
+  close_passed next seen g alike q x f w =
+      close_made next g alike q x f (passing_done n (remove_of next a) rows p.estimate seen 0 g alike w refl)
 
   pub closing_last : p.round ≡ t + 1 → closing_of n t a rows p ≡ LastRound
   unfolding closing_of

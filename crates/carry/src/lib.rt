@@ -14,6 +14,7 @@ use soundness::{all_pass, ensure_sound};
 
 // Whether a word has no high half; under an absent entry it does not count. No branch, so that the loop over the
 // words has none.
+#[tactic(auto, unfolding(sets::specs::Truth::select, sets::specs::Truth::less))]
 fn word_plain(present: bool, word: u32) -> bool
     ensures { result ≡ select present (less word 65536) true }
 {

@@ -203,5 +203,6 @@ pub fn change(
     ensures { result ≡ change_of n entries.now marks process standing }
 {
     let entries = checked(n, entries, marks, one_to(n, process), true)?;
-    changed_by(standing, entries.entry((process - 1) as usize))
+    let i = (process - 1) as usize;
+    changed_by(standing, entries.entry(i))
 }

@@ -1,5 +1,6 @@
 -- Laws of the text: a number's digits by its last one, and that they are what a format writes of the number.
-use Rattle.std.specs.Prelude.{◌≡◌, refl, Bool, true, false, [], ◌∷◌, ◌++◌, ℕ, zero, suc, ◌/◌, ◌+◌, ◌%◌, ◌^◌, ◌≤◌, ◌<◌}
+use Rattle.std.specs.Prelude.{◌≡◌, refl, Bool, true, false, List, [], ◌∷◌, ◌++◌}
+use Rattle.std.specs.Prelude.{ℕ, zero, suc, ◌/◌, ◌+◌, ◌%◌, ◌^◌, ◌≤◌, ◌<◌}
 use Rattle.std.proofs.Common.{sym, ◌∙◌, ⊎_elim, arith, append_assoc}
 use Rattle.std.specs.Int.{from_bool}
 use Rattle.std.specs.Fmt as fmt
@@ -11,8 +12,7 @@ use Rattle.global_data.specs.GlobalData.{entry_of}
 use Rattle.global_data.specs.declared.Value.{Value}
 use Rattle.process.specs.declared.Process.{Process}
 use Rattle.process.specs.Steps.{has_decided}
-use Rattle.text.specs.Text.{process_text}
-use Rattle.text.specs.Text.{digits_of, decimal, field_of, value_text, entry_text, line_of}
+use Rattle.text.specs.Text.{digits_of, decimal, field_of, newline, line_of, value_text, entry_text, process_text}
 
 digits_low : (k x : ℕ) → x < 10 → digits_of (suc k) x ≡ (48 + x) ∷ []
 unfolding digits_of
@@ -48,7 +48,7 @@ decimal_printed x h =
     (omega (arith, length-decimal-le_succ x h))
 
 pub line_printed : (k r : ℕ) → k < 2 ^ 64 → r < 2 ^ 64
-    → line_of k r ≡ fmt.decimal k ++ (32 ∷ (fmt.decimal r ++ (10 ∷ [])))
+    → line_of k r ≡ fmt.decimal k ++ (32 ∷ (fmt.decimal r ++ newline))
 unfolding line_of field_of
 line_printed k r h i = rw (decimal_printed k h, decimal_printed r i)
 
@@ -67,11 +67,16 @@ from_bool_small : (b : Bool) → from_bool b < 2 ^ 64
 from_bool_small true = omega arith
 from_bool_small false = omega arith
 
--- a process's line before its entries, with its number, and the two flags as numbers
+-- a number after a space, as a format writes it
+abbrev pub printed : ℕ → List ℕ
+printed x = 32 ∷ fmt.decimal x
+
+-- a process's line, as formats write it: before its entries its number and round, and the two flags as numbers
 pub process_printed : (n a : ℕ) (crashed : Bool) (p : Process) → a < 2 ^ 8 → p.round < 2 ^ 8
     → process_text n a crashed p
-    ≡ (84 ∷ 32 ∷ (fmt.decimal (a + 1) ++ (32 ∷ (fmt.decimal p.round ++ (32 ∷ (fmt.decimal (from_bool crashed) ++ (32 ∷ fmt.decimal (from_bool (has_decided p)))))))))
-    ++ (joined n (λ k. entry_text (entry_of p.estimate k)) ++ (10 ∷ []))
+    ≡ (84 ∷ (printed (a + 1)
+    ++ (printed p.round ++ (printed (from_bool crashed) ++ printed (from_bool (has_decided p))))))
+    ++ (joined n (λ k. entry_text (entry_of p.estimate k)) ++ newline)
 unfolding process_text field_of
 process_printed n a crashed p h i =
     rw (

@@ -1,5 +1,5 @@
 -- The format writes the line's parts one after another.
-use Rattle.std.proofs.Common.{◌≡◌, sym, ◌∙◌, arith, rules}
+use Rattle.std.proofs.Common.{◌≡◌, arith, rules}
 use Rattle.text.specs.Text.{shown_refusal}
 use Rattle.text.specs.TextLaws.{line_printed}
 use Rattle.text.proofs.line.LineDisplay.fmt.Goals as goal

@@ -39,8 +39,8 @@ fn is_plain(b: &Bench) -> bool
     all_pass(&b.processes, |p| data_plain(&p.estimate)) & all_pass(&b.sent, data_plain)
 }
 
-// The first check that fails is the answer.
-fn checked(b: &Bench) -> Result<(), Refusal>
+// Whether a bench can be carried over: the first check that fails is the answer.
+pub fn checked(b: &Bench) -> Result<(), Refusal>
     ensures { result ≡ answer_of (carry_refusal b.now) }
 {
     ensure_sound(b)?;

@@ -96,7 +96,7 @@ fn data(rt: &impl Print, bench: &Bench, process: u8, words: u8) -> io::Result<()
     let Some(lent) = all.get_mut(..usize::from(words)) else {
         return Ok(());
     };
-    let marks = global_data(*bench, process, lent);
+    let marks = global_data(bench, process, lent);
     say_value(rt, marks)?;
     for word in &all[..3] {
         say(rt, *word)?;
@@ -106,7 +106,7 @@ fn data(rt: &impl Print, bench: &Bench, process: u8, words: u8) -> io::Result<()
 
 // Three bytes are lent.
 fn list(rt: &impl Print, bench: &Bench) -> io::Result<()> {
-    say_answer(rt, in_transit(*bench, &mut [0; 3]))
+    say_answer(rt, in_transit(bench, &mut [0; 3]))
 }
 
 // Of four standing values so many are lent.

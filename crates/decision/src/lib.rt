@@ -23,11 +23,11 @@ fn put_entries(out: &mut [u32], n: usize, g: &GlobalData)
 
 // Writes what process `process`, from 1, has decided on, and gives its present marks.
 // Nothing is written where it refuses.
-pub fn global_data(b: Bench, process: u8, out: &mut [u32]) -> Result<u16, Refusal>
-    ensures value { result ≡ show_of b process out.old }
-    ensures out_after { out.new ≡ shown_in b process out.old }
+pub fn global_data(b: &Bench, process: u8, out: &mut [u32]) -> Result<u16, Refusal>
+    ensures value { result ≡ show_of b.now process out.old }
+    ensures out_after { out.new ≡ shown_in b.now process out.old }
 {
-    ensure_sound(&b)?;
+    ensure_sound(b)?;
     if !one_to(b.n, process) {
         return Err(Refusal::Field);
     }

@@ -12,7 +12,7 @@ ghost use Rattle.answers.specs.Numbers.{cause_number, word_number, progress_of};
 
 use answers::{Progress, cause_number, closing_number, word_number};
 use bench::{Bench, Counters};
-use carry::carry;
+use carry::checked;
 use decision::global_data;
 use one_record::{answer_to, record_in, tally_after};
 use refusal::{answer_number, store};
@@ -33,7 +33,7 @@ pub extern "C" fn gerzulan_bench_carry(b: &mut Bench) -> u32
     ensures { (result ≡ answer_number (carry_of b.old).answer)
         × (b.new ≡ (carry_of b.old).bench) }
 {
-    answer_number(&carry(*b).answer)
+    answer_number(&checked(b))
 }
 
 // One record, with the host's tally; how the round ended is always written.
@@ -81,7 +81,7 @@ pub extern "C" fn gerzulan_bench_global_data(b: &Bench, process: u8, out: &mut [
     ensures { (result ≡ word_number (show_of b.now process out.old))
         × (out.new ≡ shown_in b.now process out.old) }
 {
-    word_number(global_data(*b, process, out).map(|marks| marks as u64))
+    word_number(global_data(b, process, out).map(|marks| marks as u64))
 }
 
 // The list in transit. It gives how many messages there are, or the number of the refusal in the high 32 bits.
@@ -90,5 +90,5 @@ pub extern "C" fn gerzulan_bench_in_transit(b: &Bench, out: &mut [u8]) -> u64
     ensures { (result ≡ word_number (list_of b.now out.old))
         × (out.new ≡ listed_in b.now out.old) }
 {
-    word_number(in_transit(*b, out).map(|messages| messages as u64))
+    word_number(in_transit(b, out).map(|messages| messages as u64))
 }

@@ -106,16 +106,16 @@ fn all_messages(bench: &Bench) -> usize
 
 // Lists the messages in transit in `out`, by round, sender and receiver, and gives how many there are. Nothing is
 // written where it refuses.
-pub fn in_transit(b: Bench, out: &mut [u8]) -> Result<usize, Refusal>
-    ensures value { result ≡ list_of b out.old }
-    ensures out_after { out.new ≡ listed_in b out.old }
+pub fn in_transit(b: &Bench, out: &mut [u8]) -> Result<usize, Refusal>
+    ensures value { result ≡ list_of b.now out.old }
+    ensures out_after { out.new ≡ listed_in b.now out.old }
 {
-    ensure_sound(&b)?;
-    let messages = all_messages(&b);
+    ensure_sound(b)?;
+    let messages = all_messages(b);
     if out.len() < messages * 3 {
         return Err(Refusal::Slice);
     }
     let mut page = Page { out, at: 0 };
-    page.put_all(&b);
+    page.put_all(b);
     Ok(messages)
 }

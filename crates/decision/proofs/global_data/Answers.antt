@@ -29,14 +29,14 @@ unfolding show_of shown_in show_refusal check select same
 returns-then-out-n c =
     let s = c.in_ok-ensure_sound.ensures in
     let e = sym c.if-not-one_to.ensures in
-    let l : less (length c.args.out.now) c.args.b.n ≡ true = less_mk _ _ (omega arith) in
+    let l : less (length c.args.out.now) c.args.b.now.n ≡ true = less_mk _ _ (omega arith) in
     record { value = rw (s, e, l); out_after = rw (s, e, l) }
 
 -- x is a number from 1 to n, and so to 16
 placed : (c : Else-not-one_to) → let x = c.args.process in (1 ≤ x) × (x ≤ 16)
 placed c =
     let e = sym c.if-not-one_to.ensures in
-    (omega (arith, one_low _ _ e), omega (arith, one_high _ _ e, (sound_on c.args.b c.in_ok-ensure_sound.ensures).few))
+    (omega (arith, one_low _ _ e), omega (arith, one_high _ _ e, (sound_on c.args.b.now c.in_ok-ensure_sound.ensures).few))
 
 pub overflow_sub-p : goal.overflow_sub-p
 overflow_sub-p c = omega (arith, placed (goal.at.overflow_sub-p c).Else-not-one_to)
@@ -49,21 +49,21 @@ unfolding show_of shown_in show_refusal check select same process_at
 returns-then-not-has_decided c =
     let s = c.in_ok-ensure_sound.ensures in
     let e = sym c.if-not-one_to.ensures in
-    let l : less (length c.args.out.now) c.args.b.n ≡ false = less_off _ _ (omega arith) in
-    let d : has_decided (process_at c.args.b (c.args.process - 1)) ≡ false = rw (← c.from.ensures) (sym c.if-not-has_decided.ensures) in
+    let l : less (length c.args.out.now) c.args.b.now.n ≡ false = less_off _ _ (omega arith) in
+    let d : has_decided (process_at c.args.b.now (c.args.process - 1)) ≡ false = rw (← c.from.ensures) (sym c.if-not-has_decided.ensures) in
     record { value = rw (s, e, l, d); out_after = rw (s, e, l, d) }
 
 pub put_entries-requires : goal.put_entries-requires
 put_entries-requires c =
-    (omega (arith, (sound_on c.args.b c.in_ok-ensure_sound.ensures).few), c.if-out-n.false)
+    (omega (arith, (sound_on c.args.b.now c.in_ok-ensure_sound.ensures).few), c.if-out-n.false)
 
 pub returns : goal.returns
 unfolding show_of shown_in show_refusal check select same process_at
 returns c =
     let s = c.in_ok-ensure_sound.ensures in
     let e = sym c.if-not-one_to.ensures in
-    let l : less (length c.args.out.now) c.args.b.n ≡ false = less_off _ _ (omega arith) in
-    let d : has_decided (process_at c.args.b (c.args.process - 1)) ≡ true = rw (← c.from.ensures) (sym c.if-not-has_decided.ensures) in
+    let l : less (length c.args.out.now) c.args.b.now.n ≡ false = less_off _ _ (omega arith) in
+    let d : has_decided (process_at c.args.b.now (c.args.process - 1)) ≡ true = rw (← c.from.ensures) (sym c.if-not-has_decided.ensures) in
     record {
       value = rw (c.from.ensures, s, e, l, d);
       out_after = rw (c.put_entries.ensures, c.from-n.ensures, c.from.ensures, s, e, l, d);

@@ -19,18 +19,18 @@ pub returns-then-out-messages : goal.returns-then-out-messages
 unfolding list_of listed_in list_refusal check select same
 returns-then-out-messages c =
     let s = c.in_ok-ensure_sound.ensures in
-    let l : less (length c.args.out.now) (length (transit_bytes c.args.b)) ≡ true = less_mk _ _ (omega arith) in
+    let l : less (length c.args.out.now) (length (transit_bytes c.args.b.now)) ≡ true = less_mk _ _ (omega arith) in
     record { value = rw (s, l); out_after = rw (s, l) }
 
 pub put_all-requires : goal.put_all-requires
 put_all-requires c =
-    let s = sound_on c.args.b c.in_ok-ensure_sound.ensures in
+    let s = sound_on c.args.b.now c.in_ok-ensure_sound.ensures in
     (omega (arith, s.few), omega (arith, s.few, s.limit), omega arith)
 
 pub returns : goal.returns
 unfolding list_of listed_in list_refusal check select same
 returns c =
     let s = c.in_ok-ensure_sound.ensures in
-    let l : less (length c.args.out.now) (length (transit_bytes c.args.b)) ≡ false = less_off _ _ (omega arith) in
-    let m : c.all_messages-messages.result ≡ length (transit_bytes c.args.b) / 3 = omega arith in
-    record { value = rw (s, l, m); out_after = rw (s, l) (let f = stores_front c.args.out.now (transit_bytes c.args.b) c.put_all.new.self.out.now c.put_all.new.self.at (omega arith) c.put_all.ensures.stored in search rules) }
+    let l : less (length c.args.out.now) (length (transit_bytes c.args.b.now)) ≡ false = less_off _ _ (omega arith) in
+    let m : c.all_messages-messages.result ≡ length (transit_bytes c.args.b.now) / 3 = omega arith in
+    record { value = rw (s, l, m); out_after = rw (s, l) (let f = stores_front c.args.out.now (transit_bytes c.args.b.now) c.put_all.new.self.out.now c.put_all.new.self.at (omega arith) c.put_all.ensures.stored in search rules) }

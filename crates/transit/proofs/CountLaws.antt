@@ -1,5 +1,6 @@
 -- How many messages there are: the sums that the chains give, and that three times them is the length of the bytes.
-use Rattle.std.proofs.Common.{◌≡◌, true, refl, List, ℕ, zero, suc, ◌+◌, ◌*◌, ◌≤◌, ◌<◌, length, map, sum, add-one, arith}
+use Rattle.std.proofs.Common.{◌≡◌, true, refl, List, ℕ, zero, suc, ◌+◌, ◌*◌, ◌≤◌, ◌<◌}
+use Rattle.std.proofs.Common.{length, map, sum, add-one, arith}
 use Rattle.std.specs.List.{range_with_len}
 use Rattle.std.proofs.lemmas.List.FromFn.{sum_by-map-range_with_len_more}
 use Rattle.sets.specs.Laws.{size_most}

@@ -14,7 +14,9 @@ loop-k-init c = refl
 pub loop-k-preserved : goal.loop-k-preserved
 unfolding every
 loop-k-preserved c =
-    rw add-one (and_comm c.loop-k.ok c.word_plain-ok.result ∙ both_are (rw c.member.ensures at c.word_plain-ok.ensures) c.loop-k.invariant)
+    rw add-one
+    (and_comm c.loop-k.ok c.word_plain-ok.result
+    ∙ both_are (rw c.member.ensures at c.word_plain-ok.ensures) c.loop-k.invariant)
 
 pub returns : goal.returns
 unfolding plain_data

@@ -50,7 +50,8 @@ returns-then-not-has_decided c =
     let s = c.in_ok-ensure_sound.ensures in
     let e = sym c.if-not-one_to.ensures in
     let l : less (length c.args.out.now) c.args.b.now.n ≡ false = less_off _ _ (omega arith) in
-    let d : has_decided (process_at c.args.b.now (c.args.process - 1)) ≡ false = rw (← c.from.ensures) (sym c.if-not-has_decided.ensures) in
+    let d : has_decided (process_at c.args.b.now (c.args.process - 1)) ≡ false =
+    rw (← c.from.ensures) (sym c.if-not-has_decided.ensures) in
     record { value = rw (s, e, l, d); out_after = rw (s, e, l, d) }
 
 pub put_entries-requires : goal.put_entries-requires
@@ -63,7 +64,8 @@ returns c =
     let s = c.in_ok-ensure_sound.ensures in
     let e = sym c.if-not-one_to.ensures in
     let l : less (length c.args.out.now) c.args.b.now.n ≡ false = less_off _ _ (omega arith) in
-    let d : has_decided (process_at c.args.b.now (c.args.process - 1)) ≡ true = rw (← c.from.ensures) (sym c.if-not-has_decided.ensures) in
+    let d : has_decided (process_at c.args.b.now (c.args.process - 1)) ≡ true =
+    rw (← c.from.ensures) (sym c.if-not-has_decided.ensures) in
     record {
       value = rw (c.from.ensures, s, e, l, d);
       out_after = rw (c.put_entries.ensures, c.from-n.ensures, c.from.ensures, s, e, l, d);

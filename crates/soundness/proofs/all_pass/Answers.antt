@@ -9,7 +9,8 @@ loop-x-init g c = λ p h. tested_none p c.args.xs.now
 pub loop-x-preserved : goal.loop-x-preserved
 loop-x-preserved g c = λ p h.
     tested_more p c.x-item.result c.args.xs.now c.loop-x.x-index c.loop-x.ok c.test-ok.result (search rules)
-    (h c.x-item.result c.test-ok.result (says_at g.F.Fn c.test-ok.ensures refl) ∙ ap p c.x-item.is) (c.loop-x.invariant p h)
+    (h c.x-item.result c.test-ok.result (says_at g.F.Fn c.test-ok.ensures refl) ∙ ap p c.x-item.is)
+    (c.loop-x.invariant p h)
 
 pub returns : goal.returns
 returns g c = λ p h.

@@ -18,13 +18,15 @@ pub sum-requires-clause-fits : goal.sum-requires-clause-fits
 sum-requires-clause-fits c =
     let b = c.args.bench.now in
     fits_from_yields_list _ _
-    (YieldsList-from_map _ (round_count b) (YieldsList-from_range 0 (b.t + 2) (b.t + 2) (cc) (omega arith)) c.map.ensures.closure (λ x r q k. search rules))
+    (YieldsList-from_map _ (round_count b) (YieldsList-from_range 0 (b.t + 2) (b.t + 2) (cc) (omega arith))
+    c.map.ensures.closure (λ x r q k. search rules))
     (omega (arith, sum_range (round_count b) (b.t + 2), all_most b c.requires))
 
 pub returns : goal.returns
 returns c =
     let b = c.args.bench.now in
     let e = sum_from_yields_List _ c.sum.result c.sum.ensures.ran
-    (YieldsList-from_map _ (round_count b) (YieldsList-from_range 0 (b.t + 2) (b.t + 2) (cc) (omega arith)) c.map.ensures.closure (λ x r q k. search rules))
+    (YieldsList-from_map _ (round_count b) (YieldsList-from_range 0 (b.t + 2) (b.t + 2) (cc) (omega arith))
+    c.map.ensures.closure (λ x r q k. search rules))
     ∙ sum_range (round_count b) (b.t + 2) in
     rw e (all_length b c.requires, all_most b c.requires)

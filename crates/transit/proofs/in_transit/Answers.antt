@@ -33,4 +33,7 @@ returns c =
     let s = c.in_ok-ensure_sound.ensures in
     let l : less (length c.args.out.now) (length (transit_bytes c.args.b.now)) ≡ false = less_off _ _ (omega arith) in
     let m : c.all_messages-messages.result ≡ length (transit_bytes c.args.b.now) / 3 = omega arith in
-    record { value = rw (s, l, m); out_after = rw (s, l) (let f = stores_front c.args.out.now (transit_bytes c.args.b.now) c.put_all.new.self.out.now c.put_all.new.self.at (omega arith) c.put_all.ensures.stored in search rules) }
+    let q = c.put_all.new.self in
+    let front =
+    stores_front c.args.out.now (transit_bytes c.args.b.now) q.out.now q.at (omega arith) c.put_all.ensures.stored in
+    record { value = rw (s, l, m); out_after = rw (s, l) (search rules) }

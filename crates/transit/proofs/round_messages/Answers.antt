@@ -24,7 +24,8 @@ sum-requires-clause-fits c =
     let b = c.args.bench.now in
     let r = c.args.round in
     fits_from_yields_list _ _
-    (YieldsList-from_map _ (messages b r) (YieldsList-from_range 0 b.n b.n (cc) (omega arith)) c.map.ensures.closure (λ x r q k. search rules))
+    (YieldsList-from_map _ (messages b r) (YieldsList-from_range 0 b.n b.n (cc) (omega arith))
+    c.map.ensures.closure (λ x r q k. search rules))
     (omega (arith, sum_range (messages b r) b.n, round_most b c.requires.0 r))
 
 pub returns : goal.returns
@@ -33,5 +34,6 @@ returns c =
     let b = c.args.bench.now in
     let r = c.args.round in
     sum_from_yields_List _ c.sum.result c.sum.ensures.ran
-    (YieldsList-from_map _ (messages b r) (YieldsList-from_range 0 b.n b.n (cc) (omega arith)) c.map.ensures.closure (λ x r q k. search rules))
+    (YieldsList-from_map _ (messages b r) (YieldsList-from_range 0 b.n b.n (cc) (omega arith))
+    c.map.ensures.closure (λ x r q k. search rules))
     ∙ sum_range (messages b r) b.n

@@ -14,6 +14,12 @@ returns c =
       stored = record {
         place = omega arith;
         list =
-            rw (c.copy_from_slice.ensures.after, copied, sets-eq bytes p.out.now p.at c.requires, drop-drop (length bytes) p.at p.out.now, append_assoc);
+            rw (
+              c.copy_from_slice.ensures.after,
+              copied,
+              sets-eq bytes p.out.now p.at c.requires,
+              drop-drop (length bytes) p.at p.out.now,
+              append_assoc,
+            );
       };
     }

@@ -11,7 +11,8 @@ loop-round-init c = writes_start _ _
 pub put_round-requires : goal.put_round-requires
 unfolding transit_bytes transit_at round_bytes sender_bytes
 put_round-requires c =
-    (c.requires.0, omega (arith, c.requires.1), room_more _ _ _ c.loop-round-test.true c.requires.2 c.loop-round.invariant)
+    let room = c.requires.2 in
+    (c.requires.0, omega (arith, c.requires.1), room_more _ _ _ c.loop-round-test.true room c.loop-round.invariant)
 
 pub loop-round-preserved : goal.loop-round-preserved
 loop-round-preserved c = writes_more _ _ c.loop-round.invariant c.put_round.ensures

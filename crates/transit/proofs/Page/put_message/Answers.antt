@@ -9,7 +9,8 @@ use Rattle.transit.proofs.Page.put_message.Goals as goal
 
 -- the receiver is in the set, or is not
 there : (c : Then-member) → let a = c.args in
-    message_bytes (transit_at a.bench.now a.from a.round) a.round a.from a.to ≡ (a.from + 1) ∷ (a.to + 1) ∷ a.round ∷ []
+    message_bytes (transit_at a.bench.now a.from a.round) a.round a.from a.to
+    ≡ (a.from + 1) ∷ (a.to + 1) ∷ a.round ∷ []
 there c =
     let a = c.args in
     message_in _ a.round a.from a.to (rw (← c.receivers.ensures, ← c.from.ensures) (sym c.if-member.ensures))
@@ -18,7 +19,8 @@ not_there : (c : Else-member) → let a = c.args in
     message_bytes (transit_at a.bench.now a.from a.round) a.round a.from a.to ≡ []
 not_there c =
     let a = c.args in
-    let m : has (transit_at a.bench.now a.from a.round) a.to ≡ false = rw (← c.receivers.ensures, ← c.from.ensures) (sym c.if-member.ensures) in
+    let m : has (transit_at a.bench.now a.from a.round) a.to ≡ false =
+    rw (← c.receivers.ensures, ← c.from.ensures) (sym c.if-member.ensures) in
     message_none _ a.round a.from a.to m
 
 pub put-requires : goal.put-requires

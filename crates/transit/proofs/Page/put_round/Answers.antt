@@ -9,7 +9,8 @@ loop-from-init c = writes_start _ _
 pub put_sender-requires : goal.put_sender-requires
 unfolding round_bytes
 put_sender-requires c =
-    (c.requires.0, c.requires.1, omega (arith, c.requires.0), room_more _ _ _ c.loop-from-test.true c.requires.2 c.loop-from.invariant)
+    let r = c.requires in
+    (r.0, r.1, omega (arith, r.0), room_more _ _ _ c.loop-from-test.true r.2 c.loop-from.invariant)
 
 pub loop-from-preserved : goal.loop-from-preserved
 loop-from-preserved c = writes_more _ _ c.loop-from.invariant c.put_sender.ensures

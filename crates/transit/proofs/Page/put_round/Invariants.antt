@@ -4,4 +4,5 @@ use Rattle.transit.specs.Pages.{Writes}
 use Rattle.transit.proofs.Page.put_round.Given as goal
 
 abbrev pub invariant-loop-from : goal.invariant-loop-from
-invariant-loop-from l = Writes l.initial.self (joined l.from (sender_bytes l.bench.in_transit l.bench.n l.round)) l.self
+invariant-loop-from l =
+    Writes l.initial.self (joined l.from (sender_bytes l.bench.in_transit l.bench.n l.round)) l.self

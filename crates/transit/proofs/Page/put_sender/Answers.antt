@@ -10,7 +10,8 @@ loop-to-init c = writes_start _ _
 pub put_message-requires : goal.put_message-requires
 unfolding sender_bytes transit_at
 put_message-requires c =
-    (c.requires.1, c.requires.2, omega (arith, c.requires.0), room_more _ _ _ c.loop-to-test.true c.requires.3 c.loop-to.invariant)
+    let r = c.requires in
+    (r.1, r.2, omega (arith, r.0), room_more _ _ _ c.loop-to-test.true r.3 c.loop-to.invariant)
 
 pub loop-to-preserved : goal.loop-to-preserved
 loop-to-preserved c = writes_more _ _ c.loop-to.invariant c.put_message.ensures

@@ -1,5 +1,6 @@
 -- What is stored where a call's answer is mapped to the word first.
-use Rattle.std.specs.Prelude.{◌≡◌, refl, Ok, Err, MatchResult, IsOkAnd}
+use Rattle.std.specs.Prelude.{◌≡◌, refl, Ok, Err, MatchResult, IsOkAnd, ℕ}
+use Rattle.std.proofs.Common.{◌∙◌}
 use Rattle.aggregates.specs.Answers.{Answer}
 use Rattle.export_aggregates.specs.Words.{refusal_in, word_in}
 

@@ -37,7 +37,8 @@ module _ (read : ℕ → Bool) (xs ys : List ℕ) (h : Alike read xs ys) where
 -- standing values that agree where no mark is set
 module _ (n marks : ℕ) (ss ts : List ℕ) (h : Alike (λ i. not (has marks i)) ss ts) where
   counted : (entries : List ℕ) (i : ℕ) → Is (has marks i)
-      → counts_for (standing_at ss i) (entry_at entries marks i) ≡ counts_for (standing_at ts i) (entry_at entries marks i)
+      → counts_for (standing_at ss i) (entry_at entries marks i)
+      ≡ counts_for (standing_at ts i) (entry_at entries marks i)
   counted entries i (on e) =
       counts_is entries marks i _ ∙ select_on _ _ _ e ∙ sym (counts_is entries marks i _ ∙ select_on _ _ _ e)
   counted entries i (off e) = ap (λ s. counts_for s (entry_at entries marks i)) (word _ ss ts h i (ap not e))
@@ -86,4 +87,5 @@ module _ (n marks : ℕ) (xs ys : List ℕ) (h : Alike (has marks) xs ys) where
       → change_of n xs marks process standing ≡ change_of n ys marks process standing
   unfolding change_of
   change_blind process standing =
-      ap₂ (λ c (e : ℕ → Entry). result_and c (changed standing (e (process - 1)))) (checked (one_to n process) true) view
+      ap₂ (λ c (e : ℕ → Entry). result_and c (changed standing (e (process - 1))))
+      (checked (one_to n process) true) view

@@ -1,5 +1,5 @@
 -- What a chain over the numbers below n gives, in the words of the definitions.
-use Rattle.std.specs.Prelude.{◌≡◌, refl, Bool, true, false, Option, None, Some, List, [], ◌∷◌, ◌++◌, ℕ, zero, suc}
+use Rattle.std.specs.Prelude.{◌≡◌, refl, Bool, true, false, Option, None, Some, [], ◌∷◌, ◌++◌, ℕ, zero, suc}
 use Rattle.std.specs.Prelude.{◌+◌, ◌&&◌, sum_by, option_to_list}
 use Rattle.std.proofs.Common.{◌∙◌, ap, ap₂, arith}
 use Rattle.std.specs.List.{range_with_len, list_all, filter_map, cons_option}

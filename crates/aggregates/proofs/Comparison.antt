@@ -174,7 +174,8 @@ greater_is a b =
     ∙ ap (lex a.value.portions b.value.portions) (gt_lex _ _ _ ∙ ap (lex a.value.diet b.value.diet) (gt_less _ _))
 
 -- the greater of two is the one that leads before the other
-pub greater_of : (a b : Candidate) (o : Ordering) → is_gt o ≡ better a b → max_by_ordering o a b ≡ select (better a b) a b
+pub greater_of : (a b : Candidate) (o : Ordering) → is_gt o ≡ better a b
+    → max_by_ordering o a b ≡ select (better a b) a b
 greater_of a b Less e = sym (select_off _ a b (sym e))
 greater_of a b Equal e = sym (select_off _ a b (sym e))
 greater_of a b Greater e = sym (select_on _ a b (sym e))

@@ -1,7 +1,7 @@
 -- Laws of the checks: the refusal of each where those before it pass, and what is known where none fails.
 use Rattle.std.specs.Prelude.{◌≡◌, refl, Bool, true, false, Ok, Err, List, ℕ, ◌≤◌, length}
 use Rattle.std.specs.Result.{result_and}
-use Rattle.std.proofs.Common.{sym, ◌∙◌, ap, arith}
+use Rattle.std.proofs.Common.{◌∙◌, ap}
 use Rattle.sets.specs.Set.{within}
 use Rattle.sets.specs.Truth.{one_to, select}
 use Rattle.sets.specs.TruthLaws.{select_on, select_off, same_on, same_mk}
@@ -38,20 +38,24 @@ module _ (n marks : ℕ) (named stood : Bool) (entries : List ℕ) where
           pub by_standing : stood ≡ false → refusal_of n marks named stood entries ≡ Err Slice
           unfolding refusal_of check
           by_standing f =
-              select_on _ _ _ sized ∙ select_on _ _ _ marked ∙ select_on _ _ _ used ∙ select_on _ _ _ (same_mk _ _ long)
+              select_on _ _ _ sized ∙ select_on _ _ _ marked ∙ select_on _ _ _ used
+              ∙ select_on _ _ _ (same_mk _ _ long)
               ∙ select_off _ _ _ f
 
           module _ (stands : stood ≡ true) where
-            pub by_diet : diets_fit n (entry_at entries marks) ≡ false → refusal_of n marks named stood entries ≡ Err Diet
+            pub by_diet : diets_fit n (entry_at entries marks) ≡ false
+                → refusal_of n marks named stood entries ≡ Err Diet
             unfolding refusal_of check
             by_diet d =
-                select_on _ _ _ sized ∙ select_on _ _ _ marked ∙ select_on _ _ _ used ∙ select_on _ _ _ (same_mk _ _ long)
+                select_on _ _ _ sized ∙ select_on _ _ _ marked ∙ select_on _ _ _ used
+                ∙ select_on _ _ _ (same_mk _ _ long)
                 ∙ select_on _ _ _ stands ∙ select_off _ _ _ d
 
             pub by_none : diets_fit n (entry_at entries marks) ≡ true → refusal_of n marks named stood entries ≡ Ok tt
             unfolding refusal_of check
             by_none d =
-                select_on _ _ _ sized ∙ select_on _ _ _ marked ∙ select_on _ _ _ used ∙ select_on _ _ _ (same_mk _ _ long)
+                select_on _ _ _ sized ∙ select_on _ _ _ marked ∙ select_on _ _ _ used
+                ∙ select_on _ _ _ (same_mk _ _ long)
                 ∙ select_on _ _ _ stands ∙ select_on _ _ _ d
 
 -- ---- what is known where no check fails

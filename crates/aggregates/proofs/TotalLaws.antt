@@ -2,7 +2,7 @@
 use Rattle.std.specs.Prelude.{◌≡◌, Bool, false, Ok, Err, List, ℕ, ◌+◌, ◌^◌, ◌≤◌, ◌<◌, get_or, length}
 use Rattle.std.specs.Result.{result_and}
 use Rattle.refusal.specs.declared.Refusal.TheVariants.{Slice, Diet}
-use Rattle.std.proofs.Math.Path.{refl, sym, fun_ext}
+use Rattle.std.proofs.Math.Path.{refl, fun_ext}
 use Rattle.std.proofs.Common.{◌∙◌, ap, arith}
 use Rattle.std.proofs.Math.Bool.{true}
 use Rattle.sets.specs.Lists.{sum_to}

@@ -1,6 +1,6 @@
 -- The aggregates of global data (document 01: sums of a sheet): total, go, lead and change, with what each refuses.
--- Document 01 says terminal for process, count for portions and blank for absent; its refusals have names (Numbers.antt
--- of the crate refusal).
+-- Document 01 says terminal for process, count for portions and blank for absent; its refusals have the names of the
+-- crate refusal.
 use Rattle.std.specs.Prelude.{Bool, true, Option, None, Some, Ok, Err, List, ℕ, ◌-◌, length, ℤ, pos, ◌-ℤ◌}
 use Rattle.std.specs.Result.{result_and}
 use Rattle.sets.specs.Lists.{every, sum_to}

@@ -1,6 +1,7 @@
 -- Calls on explicit lists, as two tables, and a theorem for each that the definitions answer every one of them:
 -- the checker computes it. The ends are reached, and the order shows where two refusals apply.
-use Rattle.std.specs.Prelude.{◌≡◌, refl, Bool, true, false, Ok, Err, List, [], ◌∷◌, map, ℕ, ◌+◌, ◌*◌, ℤ, pos, negsuc, replicate}
+use Rattle.std.specs.Prelude.{◌≡◌, refl, Bool, true, false, Ok, Err, List, [], ◌∷◌, map}
+use Rattle.std.specs.Prelude.{ℕ, ◌+◌, ◌*◌, ℤ, pos, negsuc, replicate}
 use Rattle.sets.specs.Lists.{joined, every, every_in, sum_to}
 use Rattle.sets.specs.Set.{has, within}
 use Rattle.sets.specs.Truth.{◌and◌, ◌or◌, same, less, one_to, select}
@@ -159,6 +160,6 @@ pub read : map (λ c. record {
   leads = lead_of c.n c.entries c.marks;
   changes = change_of c.n c.entries c.marks c.process c.standing;
 }) readings ≡ map (λ c. c.answers) readings
-unfolding portions_of diet_of diet_fits joined every every_in has within ◌and◌ ◌or◌ same less one_to select check entry_at
-    better candidates is_greatest first_in leader_to refusal_of go_of lead_of change_of
+unfolding portions_of diet_of diet_fits joined every every_in has within ◌and◌ ◌or◌ same less one_to select check
+    entry_at better candidates is_greatest first_in leader_to refusal_of go_of lead_of change_of
 read = refl

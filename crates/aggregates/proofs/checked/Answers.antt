@@ -37,7 +37,8 @@ returns-then-not-named c =
 pub returns-then-words-n : goal.returns-then-words-n
 returns-then-words-n c =
     let o = goal.at.returns-then-words-n c in
-    by_entries _ _ _ _ _ (sized o.Else-not-one_to) (marked o.Else-not-set_within) c.if-not-named.false c.if-words-n.true
+    by_entries _ _ _ _ _ (sized o.Else-not-one_to) (marked o.Else-not-set_within) c.if-not-named.false
+    c.if-words-n.true
 
 pub returns-then-not-stood : goal.returns-then-not-stood
 returns-then-not-stood c =
@@ -48,7 +49,8 @@ returns-then-not-stood c =
 -- the entries are n, so at most sixteen
 pub invariant_of-entries : goal.invariant_of-entries
 invariant_of-entries c =
-    record { few = omega (arith, c.if-words-n.false, one_high 16 _ (sized (goal.at.invariant_of-entries c).Else-not-one_to)) }
+    let h = one_high 16 _ (sized (goal.at.invariant_of-entries c).Else-not-one_to) in
+    record { few = omega (arith, c.if-words-n.false, h) }
 
 -- the test is the definition's, of n entries
 looked : (c : After-diets_fit)

@@ -27,6 +27,7 @@ use Rattle.global_data.specs.declared.Value.{Value}
 use Rattle.global_data.specs.GlobalData.{Entry}
 use Rattle.aggregates.specs.declared.Candidate.{Candidate}
 use Rattle.aggregates.specs.Leader.{better, contender, candidates, is_greatest, first_in, leader_to}
+use Rattle.aggregates.specs.Search.{contend, with_entry}
 use Rattle.aggregates.proofs.Comparison.{Behind, better_off, behind_off, better_self, better_over, better_one}
 use Rattle.aggregates.proofs.Comparison.{better_upto}
 
@@ -114,6 +115,39 @@ heads n g =
   where
     either_of : Candidate → Candidate → Candidate
     either_of a b = select (better a b) a b
+
+-- ---- one process more
+
+heads_contend : (l : List Candidate) (c : Candidate) (m : Option Candidate) → Heads l m
+    → Heads (l ++ (c ∷ [])) (contend m c)
+heads_contend l c None e = takes l c (λ a i. absurd (not_in (subst (In a) e i)))
+heads_contend l c (Some b) t = go (is (better c b))
+  where
+    go : Is (better c b) → Heads (l ++ (c ∷ [])) (select (better c b) (Some c) (Some b))
+    go (on e) = rw (select_on _ (Some c) (Some b) e) (takes l c (λ a i. better_over a c b e (t.best a i)))
+    go (off e) = rw (select_off _ (Some c) (Some b) e) (stays l c b t e)
+
+heads_found : (l : List Candidate) (m : Option Candidate) → Heads l m → first_in (is_greatest l) l ≡ m
+unfolding first_in
+heads_found l None e = ap (λ k. first_in (is_greatest k) k) e
+heads_found l (Some b) t = found_greatest l b t
+
+heads_entry : (l : List Candidate) (m : Option Candidate) (n : ℕ) (e : Entry) → Heads l m
+    → Heads (l ++ option_to_list (contender n e)) (with_entry m (suc n) e)
+heads_entry l m n None t = rw (← append-nil l) at t
+heads_entry l m n (Some v) t = rw (add-one) (heads_contend l (record { value = v; process = suc n }) m t)
+
+module _ (g : ℕ → Entry) where
+  -- the search finds it
+  pub leader_next : (n : ℕ) → leader_to (suc n) g ≡ with_entry (leader_to n g) (suc n) (g n)
+  unfolding candidates joined leader_to
+  leader_next n =
+      heads_found (candidates (suc n) g) _
+      (heads_entry (joined n (λ i. option_to_list (contender i (g i)))) (leader_to n g) n (g n) (heads n g))
+
+  pub leader_start : leader_to 0 g ≡ None
+  unfolding candidates joined leader_to first_in
+  leader_start = refl
 
 -- ---- in the request's words
 

@@ -4,4 +4,5 @@ pub mod Cases
 pub mod Change
 pub mod Entries
 pub mod Leader
+pub mod Search
 pub mod TotalLaws

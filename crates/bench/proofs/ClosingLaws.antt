@@ -35,6 +35,11 @@ use Rattle.bench.specs.RunLoop.{ended_of}
 use Rattle.bench.specs.OneByOne.{rest_at, record_at, steps}
 use Rattle.bench.proofs.RunLaws.{rest_next, closing_to, run_sound, runs}
 
+-- a close never gives none
+pub close_some : (s : Bench) (a : ℕ) → is_none (closing_at (Close a) s) ≡ false
+unfolding closing_at
+close_some s a = refl
+
 -- ---- one record: of the events by their kinds, a close alone has one
 by_close : (s : Bench) (a b r v : ℕ) → is_none (closing_at (event_of 4 a b r v) s) ≡ not (same 4 4)
 unfolding closing_at event_of same select

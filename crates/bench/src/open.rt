@@ -29,14 +29,15 @@ impl Bench {
     pub const RECORD: usize = 8;
 
     // Nobody has started or crashed, and nothing is sent.
+    #[tactic(auto, unfolding(crate::specs::State::opened_of))]
     fn fresh(n: u8, t: u8) -> Bench
         ensures { result ≡ opened_of n t }
     {
         let p = Process::idle();
         let g = GlobalData::nothing();
         Bench {
-            n: n,
-            t: t,
+            n,
+            t,
             crashed: sets::empty(),
             processes: [p; Bench::PROCESSES],
             sent: [g; Bench::ROWS],
@@ -45,6 +46,7 @@ impl Bench {
     }
 
     // A bench of n processes of which t may crash.
+    #[tactic(auto, unfolding(crate::specs::Calls::open_of, sets::specs::Truth::select))]
     pub fn open(n: u8, t: u8) -> Result<Bench, Refusal>
         ensures { result ≡ open_of n t }
     {

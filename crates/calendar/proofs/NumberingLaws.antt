@@ -1,20 +1,20 @@
 -- The list of those who take part and how many they are, for any test: by induction along the sites, the list of those
 -- up to m has as many entries as take part, and each stands at its own number. Then what a loop over the sites stores.
-use Rattle.std.specs.Prelude.{◌≡◌, Bool, true, false, ◌⊎◌, set, replicate}
+use Rattle.std.specs.Prelude.{◌≡◌, ◌≢◌, Bool, true, false, ◌⊎◌, set, replicate}
 use Rattle.std.proofs.Math.Path.{refl, sym, ap, ap₂}
-use Rattle.std.proofs.Common.{◌∙◌, inl, inr, ⊎_elim, add-one, arith, length-drop, get_or-append-add, get_or-drop, drop-cons}
+use Rattle.std.proofs.Common.{◌∙◌, inl, inr, ⊎_elim, add-one, arith, length-drop, get_or-append-add, get_or-drop}
+use Rattle.std.proofs.Common.{drop-cons}
 use mathlib.Core.List.{List, [], ◌∷◌, ◌++◌, append_assoc, append-nil}
 use Prim.Native.Nat.{ℕ, zero, suc, ◌+◌, ◌-◌, ◌≤◌, ◌<◌}
 use Rattle.std.proofs.Math.ListN.{length, get_or, drop, length-append, get_or-append, get_or-eq_default}
 use Rattle.std.proofs.lemmas.List.{get_or-replicate, get_or_at, set_at, set-get_or}
 use Rattle.sets.specs.CountLaws.{count_cong}
 use Rattle.sets.specs.EachLaws.{length-each, each_step, each_cong, each-get_or}
-use Rattle.sets.specs.Lists.{each, joined, count_to}
-use Rattle.sets.specs.Set.{has}
+use Rattle.sets.specs.EveryLaws.{some_mk, some_none}
+use Rattle.sets.specs.Lists.{each, joined, some_to, count_to}
 use Rattle.sets.specs.Truth.{bit, select}
-use Rattle.sets.specs.TruthLaws.{Is, is, on, off, select_on, select_off, le-or, eq-or}
+use Rattle.sets.specs.TruthLaws.{Is, is, on, off, off_by, select_on, select_off, le-or, eq-or}
 use Rattle.calendar.specs.Calendar.{sites_to, how_many, process_of_site, site_of_process, numbering_of}
-use Rattle.calendar.specs.NumberingLaws.{in_set}
 
 module _ (takes : ℕ → Bool) where
   pub sites_on : (m : ℕ) → takes (m + 1) ≡ true → sites_to takes (suc m) ≡ sites_to takes m ++ ((m + 1) ∷ [])
@@ -117,6 +117,18 @@ module _ (takes : ℕ → Bool) where
       go (inl l) (inl k) = omega arith
       go (inl l) (inr k) = absurd (omega (arith, before s r k er))
 
+-- somebody takes part where they are not none
+module _ (takes : ℕ → Bool) where
+  pub nobody : how_many takes 16 ≡ 0 → some_to 16 (λ i. takes (i + 1)) ≡ false
+  nobody e =
+      some_none 16 _ (λ i l. off_by _ (λ t. omega (arith, many_on takes i t, many_le takes (suc i) 16 (omega arith))))
+
+  pub somebody : how_many takes 16 ≢ 0 → some_to 16 (λ i. takes (i + 1)) ≡ true
+  somebody d =
+      let h = placed takes 16 0 (omega arith) in
+      let e : get_or (sites_to takes 16) 0 0 - 1 + 1 ≡ get_or (sites_to takes 16) 0 0 = omega (arith, h.low) in
+      some_mk 16 _ (get_or (sites_to takes 16) 0 0 - 1) (omega (arith, h.low, h.high)) (ap takes e ∙ h.part)
+
 -- ---- a loop that stores the sites one after the other
 module _ (takes : ℕ → Bool) where
   abbrev pub stored_to : ℕ → List ℕ → List ℕ
@@ -215,7 +227,3 @@ module _ (t u : ℕ → Bool) where
         (λ i l. ap₂ (λ b n. select b n 0) (h i l) (many_cong (i + 1) (λ j d. h j (omega arith)))) k;
     site_of = each 16 (λ i. get_or (sites_cong 16 h k) (i + 1 - 1) 0);
   }
-
--- site i, from 0, is site i + 1
-pub in_set_lem : (m i : ℕ) → has m i ≡ in_set m (i + 1)
-in_set_lem m i = let e : i + 1 - 1 ≡ i = omega arith in ap (has m) (sym e)

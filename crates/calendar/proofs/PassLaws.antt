@@ -1,25 +1,27 @@
 -- One pass over the records tells who takes part: of each kind and site it marks the weekdays that lie in a record,
 -- and a site takes part where a day marked as term is not marked as closed. By induction on the records looked at.
-use Rattle.std.specs.Prelude.{◌≡◌, refl, Bool, true, false, not, List, [], ℕ, suc, ◌+◌, ◌-◌, ◌*◌, ◌/◌, ◌≤◌, ◌<◌, min, length, ◌≢◌, ◌⊎◌, zero, get_or, set, take, drop, replicate}
+use Rattle.std.specs.Prelude.{◌≡◌, refl, Bool, true, false, not, List, [], ℕ, suc, ◌+◌, ◌-◌, ◌*◌, ◌/◌, ◌≤◌, ◌<◌, min}
+use Rattle.std.specs.Prelude.{length, ◌≢◌, ◌⊎◌, zero, get_or, set, take, drop, replicate}
 use Rattle.std.proofs.Common.{◌∙◌, sym, ap, ap₂, arith, inl, inr, length-set, get_or-set_same, get_or-set_other}
 use Rattle.std.proofs.Math.ListN.{length-replicate}
 use Rattle.std.proofs.lemmas.List.{get_or-replicate, get_or-take, get_or-drop, drop-drop}
 use Rattle.std.specs.Simd.{first_chunks}
 use Rattle.sets.specs.EveryLaws.{some_on, some_mk, some_none, some_suc}
-use Rattle.sets.specs.Laws.{has_all, has_difference, has_empty, has_insert, has_union, nothing_in, member_of}
-use Rattle.sets.specs.Set.{has, insert_of, difference_of, all_of}
+use Rattle.sets.specs.Laws.{has_all, has_difference, has_union, nothing_in, member_of}
+use Rattle.sets.specs.Set.{has, difference_of, all_of}
 use Rattle.sets.specs.Truth.{◌and◌, ◌or◌, same, less, one_to}
-use Rattle.sets.specs.TruthLaws.{clash, by_both, and_first, and_second, and_mk, and_on_l, and_on_r, and_off_l, and_off_r}
-use Rattle.sets.specs.TruthLaws.{or_mk_l, or_off_l, or_off_r}
+use Rattle.sets.specs.TruthLaws.{clash, by_both, and_first, and_second, and_mk, and_on_r, and_off_l, and_off_r}
+use Rattle.sets.specs.TruthLaws.{or_off_l, or_off_r}
 use Rattle.sets.specs.TruthLaws.{not_on, same_on, same_mk, same_not}
 use Rattle.sets.specs.TruthLaws.{same_off, less_on, less_mk, less-not, less_off, eq-or, one_low, one_high, one_mk}
 use Rattle.calendar.specs.declared.Kind.{Kind}
 use Rattle.calendar.specs.declared.Kind.TheVariants.{Term, Closed}
 use Rattle.calendar.specs.declared.Marks.{Marks}
 use Rattle.calendar.specs.declared.Period.{Period}
-use Rattle.calendar.specs.Calendar.{Record, kind_number, periods_in, period_at, well_formed, own_of, lies, has_day, lies_in, open_on}
-use Rattle.calendar.specs.Calendar.{takes_part_in, somebody_in}
-use Rattle.calendar.specs.PassLaws.{record_of, lies_in_to, no_marks, marked_by, with_days, Marked, Collected, some_day, some_day_at}
+use Rattle.calendar.specs.Calendar.{Record, kind_number, periods_in, period_at, well_formed, own_of, lies, has_day}
+use Rattle.calendar.specs.Calendar.{lies_in, open_on}
+use Rattle.calendar.specs.Calendar.{takes_part_in}
+use Rattle.calendar.specs.PassLaws.{record_of, lies_in_to, no_marks, marked_by, with_days, Marked, some_day, open_in}
 
 -- ---- the weekdays of one record: those before its end without those before its beginning
 module _ (monday : ℕ) (p : Record) where
@@ -155,7 +157,8 @@ module _ (calendar : List ℕ) (monday : ℕ) where
         ∙ ap₂ (λ x y. x or (y and has days i))
         (ap (λ x. has (marked_by kind (get_or sites x no_marks)) i) (sym u) ∙ m.marked kind k i l)
         (sym (and_on_r _ _ (same_mk _ _ v)))
-        ∙ ap (λ x. (less i 5 and lies_in_to calendar j kind (k + 1) (monday + i)) or (own_of kind (k + 1) (record_of period) and x)) (h i)
+        ∙ ap (λ x. (less i 5 and lies_in_to calendar j kind (k + 1) (monday + i))
+        or (own_of kind (k + 1) (record_of period) and x)) (h i)
         ∙ more_days (less i 5) _ (lies (monday + i) (record_of period)) (own_of kind (k + 1) (record_of period))
         ∙ ap (λ b. less i 5 and b) (sym (lies_more kind (k + 1) (monday + i)))
 
@@ -178,34 +181,6 @@ module _ (calendar : List ℕ) (monday : ℕ) where
         go kind k i l (inl u) = its_own kind k i l u
         go kind k i l (inr d) = another kind k i l d
 
-pub collect_none : (q : ℕ → Bool) → Collected q 0 0
-collect_none q k = has_empty k ∙ sym (and_off_l _ _ (less_off k 0 (omega arith)))
-
-module _ (q : ℕ → Bool) (i m : ℕ) (h : Collected q i m) where
-  -- a number other than i is below both or neither
-  apart : (k : ℕ) → k ≢ i → has m k ≡ (less k (i + 1) and q k)
-  apart k d =
-      h k
-      ∙ ap (λ b. b and q k)
-      (by_both (less k i) (less k (i + 1)) (λ e. less_mk k (i + 1) (omega (arith, less_on k i e)))
-      (λ e. less_mk k i (omega (arith, less_on k (i + 1) e))))
-
-  pub collect_on : q i ≡ true → Collected q (i + 1) (insert_of m i)
-  collect_on e k = has_insert m i k ∙ go (eq-or k i)
-    where
-      go : (k ≡ i) ⊎ (k ≢ i) → (same k i or has m k) ≡ (less k (i + 1) and q k)
-      go (inl u) =
-          or_mk_l _ _ (same_mk k i u) ∙ sym (and_mk _ _ (less_mk k (i + 1) (omega arith)) (ap q u ∙ e))
-      go (inr d) = or_off_l _ _ (same_off k i d) ∙ apart k d
-
-  pub collect_off : q i ≡ false → Collected q (i + 1) m
-  collect_off e k = go (eq-or k i)
-    where
-      go : (k ≡ i) ⊎ (k ≢ i) → has m k ≡ (less k (i + 1) and q k)
-      go (inl u) =
-          h k ∙ and_off_l _ _ (less_off k i (omega arith)) ∙ sym (and_off_r _ _ (ap q u ∙ e))
-      go (inr d) = apart k d
-
 -- ---- from the marks to who takes part
 
 shared : (b x y : Bool) → ((b and x) and not (b and y)) ≡ (b and (x and not y))
@@ -223,10 +198,12 @@ module _ (calendar : List ℕ) (week : ℕ) (sites : List Marks)
       has_difference _ _ d ∙ ap₂ (λ x y. x and not y) (m.marked Term i d l) (m.marked Closed i d l)
       ∙ shared (less d 5) _ _
 
-  pub part_is : (i : ℕ) → i < 16 → some_day_at sites i ≡ takes_part_in calendar week (i + 1)
+  pub part_is : (i : ℕ) → i < 16 → open_in sites (i + 1) ≡ takes_part_in calendar week (i + 1)
   unfolding some_day takes_part_in
   part_is i l =
-      by_both _ _
+      let e : i + 1 - 1 ≡ i = omega arith in
+      ap (λ k. some_day (get_or sites k no_marks)) e
+      ∙ by_both _ _
       (λ e.
       let w = member_of left (same_not left 0 (not_on _ e)) in
       let b : (less w.0 5 and open_on calendar (i + 1) (7 * week + w.0)) ≡ true =
@@ -239,20 +216,6 @@ module _ (calendar : List ℕ) (week : ℕ) (sites : List Marks)
     where
       left : ℕ
       left = difference_of (get_or sites i no_marks).term (get_or sites i no_marks).closed
-
-  -- so the set collected from the marks has just those who take part
-  module _ (set : ℕ) (h : Collected (some_day_at sites) 16 set) where
-    pub part_in : (i : ℕ) → i < 16 → has set i ≡ takes_part_in calendar week (i + 1)
-    part_in i l = h i ∙ and_on_l _ _ (less_mk i 16 l) ∙ part_is i l
-
-    pub nobody : set ≡ 0 → somebody_in calendar week ≡ false
-    nobody e = some_none 16 _ (λ i l. sym (part_in i l) ∙ nothing_in set e i)
-
-    pub somebody : set ≢ 0 → somebody_in calendar week ≡ true
-    somebody d =
-        let w = member_of set d in
-        let l : w.0 < 16 = less_on w.0 16 (and_first _ _ (sym (h w.0) ∙ w.1)) in
-        some_mk 16 _ w.0 l (sym (part_in w.0 l) ∙ w.1)
 
 -- ---- the records as the pass has them: eight bytes each
 chunk_at : (k : ℕ) (xs : List ℕ) (j : ℕ) → j < k → get_or (first_chunks 8 k xs) j [] ≡ take 8 (drop (8 * j) xs)

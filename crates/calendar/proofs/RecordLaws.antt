@@ -114,7 +114,8 @@ module _ (calendar : List ℕ) where
       let there : In (period_at calendar w.0) calendar = record { place = w.0; inside = w.1; found = refl } in
       (period_at calendar w.0, there, and_first _ _ w.2, and_second _ _ w.2)
 
-  pub lies_mk : (kind : Kind) (site day : ℕ) (p : Record) → In p calendar → own_of kind site p ≡ true → lies day p ≡ true
+  pub lies_mk : (kind : Kind) (site day : ℕ) (p : Record) → In p calendar → own_of kind site p ≡ true
+      → lies day p ≡ true
       → lies_in calendar kind site day ≡ true
   unfolding lies_in
   lies_mk kind site day p h o l =
@@ -199,7 +200,8 @@ module _ (x r y : List ℕ) (week : ℕ) (wx : Whole x) (wr : Whole r) where
 
   -- records of r in which no weekday of the week lies that counts for the site
   unmoved : (site : ℕ)
-      → ((p : Record) → In p r → (kind : Kind) (i : ℕ) → i < 5 → own_of kind site p ≡ true → lies (day_of week i) p ≡ true → ⊥)
+      → ((p : Record) → In p r → (kind : Kind) (i : ℕ) → i < 5 → own_of kind site p ≡ true
+      → lies (day_of week i) p ≡ true → ⊥)
       → takes_part_in (x ++ (r ++ y)) week site ≡ takes_part_in (x ++ y) week site
   unmoved site f =
       part_cong (x ++ (r ++ y)) (x ++ y) week site (λ kind i l.

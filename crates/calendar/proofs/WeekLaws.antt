@@ -1,7 +1,8 @@
 -- What an answer says, of any test of who takes part: n is how many do, each of them and nobody else has a number of 1
 -- to n, the two ways are inverse to each other, and sites rise with processes; and no other numbering has all of this.
 -- From the laws of the numbering; that there is no other, by going up the processes.
-use Rattle.std.specs.Prelude.{◌≡◌, IsOkAnd, Ok, Bool, true, List, ◌≢◌, ◌⊎◌, ℕ, zero, suc, ◌+◌, ◌-◌, ◌≤◌, ◌<◌, length, get_or}
+use Rattle.std.specs.Prelude.{◌≡◌, IsOkAnd, Ok, Bool, true, List, ◌≢◌, ◌⊎◌, ℕ, zero, suc, ◌+◌, ◌-◌, ◌≤◌, ◌<◌, length}
+use Rattle.std.specs.Prelude.{get_or}
 use Rattle.std.proofs.Math.Path.{refl, ap}
 use Rattle.std.proofs.Common.{sym, ◌∙◌, inl, inr, ext_get_or}
 use Rattle.std.proofs.Math.Bool.{false}
@@ -13,7 +14,8 @@ use Rattle.sets.specs.Truth.{one_to}
 use Rattle.sets.specs.TruthLaws.{Is, is, on, off, select_on, select_off, same_mk, one_low, one_high, one_mk}
 use Rattle.sets.specs.TruthLaws.{le-or, eq-or, check-zero}
 use Rattle.calendar.specs.declared.Numbering.{Numbering}
-use Rattle.calendar.specs.Calendar.{takes_part_in, sites_to, how_many, process_of_site, site_of_process, numbering_of, week_refusal}
+use Rattle.calendar.specs.Calendar.{takes_part_in, sites_to, how_many, process_of_site, site_of_process, numbering_of}
+use Rattle.calendar.specs.Calendar.{week_refusal}
 use Rattle.calendar.specs.Calendar.{week_of}
 use Rattle.calendar.proofs.NumberingLaws.{length_sites, many_bound, many_on, many_le, Placed, placed}
 use Rattle.calendar.proofs.NumberingLaws.{number_one}

@@ -1,7 +1,8 @@
 -- Weeks of explicit calendars, as one table, and one theorem that the definition answers each of them: the checker
 -- computes it. First and last days, weekends, closed days, sixteen sites, the last week that days of 16 bits reach,
 -- and each ground of the two refusals.
-use Rattle.std.specs.Prelude.{◌≡◌, refl, List, [], ◌∷◌, ◌++◌, map, ℕ, ◌+◌, ◌-◌, ◌/◌, ◌%◌, length, replicate, Result, Ok, Err}
+use Rattle.std.specs.Prelude.{◌≡◌, refl, List, [], ◌∷◌, ◌++◌, map, ℕ, ◌+◌, ◌-◌, ◌/◌, ◌%◌, length, replicate, Result}
+use Rattle.std.specs.Prelude.{Ok, Err}
 use Rattle.sets.specs.Lists.{each, joined, every, some_to, count_to}
 use Rattle.sets.specs.Truth.{◌and◌, same, less, one_to, bit, select, check}
 use Rattle.refusal.specs.declared.Refusal.{Refusal}

@@ -1,5 +1,5 @@
 -- One pass over the records, in the words of the code's contracts. The laws are in ../proofs/PassLaws.antt.
-use Rattle.std.specs.Prelude.{◌≡◌, Bool, true, false, not, List, ℕ, ◌+◌, ◌<◌, length, get_or, Result, MatchResult}
+use Rattle.std.specs.Prelude.{◌≡◌, Bool, true, false, not, List, ℕ, ◌+◌, ◌-◌, ◌<◌, length, get_or, Result, MatchResult}
 use Rattle.sets.specs.Lists.{some_to}
 use Rattle.sets.specs.Set.{has, union_of, difference_of}
 use Rattle.sets.specs.Truth.{◌and◌, same, less, one_to}
@@ -53,7 +53,8 @@ with_days m Closed days = record { term = m.term; closed = union_of m.closed day
 pub record Marked (calendar : List ℕ) (monday j : ℕ) (sites : List Marks) : Type 0 where
   pub long : length sites ≡ 16
   pub marked : (kind : Kind) (k i : ℕ) → k < 16
-      → has (marked_by kind (get_or sites k no_marks)) i ≡ (less i 5 and lies_in_to calendar j kind (k + 1) (monday + i))
+      → has (marked_by kind (get_or sites k no_marks)) i
+      ≡ (less i 5 and lies_in_to calendar j kind (k + 1) (monday + i))
 
 -- it has looked at all records, or met a fault
 abbrev pub MarksAll : List ℕ → ℕ → Result (List Marks) Refusal → Type 0
@@ -63,14 +64,12 @@ MarksAll calendar monday r =
     × Marked calendar monday (periods_in calendar) sites)
     (λ e. (e ≡ Calendar) × ((whole_records calendar and all_well_formed calendar) ≡ false))
 
--- ---- a loop that collects the numbers that pass a test
-abbrev pub Collected : (ℕ → Bool) → ℕ → ℕ → Type 0
-Collected q i m = (k : ℕ) → has m k ≡ (less k i and q k)
+-- ---- after it
 
 -- a day of term that is not closed
 unfoldable pub some_day : Marks → Bool
 some_day m = not (same (difference_of m.term m.closed) 0)
 
--- of the site at i
-abbrev pub some_day_at : List Marks → ℕ → Bool
-some_day_at sites i = some_day (get_or sites i no_marks)
+-- a site has such a day
+abbrev pub open_in : List Marks → ℕ → Bool
+open_in sites site = some_day (get_or sites (site - 1) no_marks)

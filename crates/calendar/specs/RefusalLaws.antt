@@ -17,7 +17,8 @@ module _ (calendar : List ℕ) (week : ℕ) where
   unfolding week_refusal
   partial_13 w = refused_as 13 (check_off _ _ _ w) (λ e. omega arith)
 
-  pub record_13 : whole_records calendar ≡ true → all_well_formed calendar ≡ false → week_of calendar week ≡ Err Calendar
+  pub record_13 : whole_records calendar ≡ true → all_well_formed calendar ≡ false
+      → week_of calendar week ≡ Err Calendar
   unfolding week_refusal
   record_13 w f = refused_as 13 (check_on _ _ _ w ∙ check_off _ _ _ f) (λ e. omega arith)
 

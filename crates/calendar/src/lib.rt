@@ -5,12 +5,11 @@ ghost use Rattle.std.specs.Prelude.{◌≡◌, ℕ, ◌+◌, ◌-◌, min};
 ghost use Rattle.sets.specs.Set.{has};
 ghost use Rattle.sets.specs.Truth.{◌and◌, less, one_to};
 ghost use Rattle.calendar.specs.Calendar.{period_at, lies, numbering_of, week_of};
-ghost use Rattle.calendar.specs.NumberingLaws.{in_set};
 ghost use Rattle.calendar.specs.PassLaws.{DecodesKind, DecodesRecord, record_of, with_days, MarksAll};
-ghost use Rattle.calendar.specs.PassLaws.{Collected, some_day, some_day_at};
+ghost use Rattle.calendar.specs.PassLaws.{some_day, open_in};
 
 use refusal::Refusal;
-use sets::{difference, insert, member, union};
+use sets::{all, difference, union};
 
 // What a record says of its site.
 #[derive(Clone, Copy)]
@@ -25,11 +24,15 @@ impl TryFrom<u8> for Kind {
     ghost try_from_gives = { DecodesKind };
 
     fn try_from(number: u8) -> Result<Self, Refusal> {
-        match number {
-            1 => Ok(Kind::Term),
-            2 => Ok(Kind::Closed),
-            _ => Err(Refusal::Calendar),
+        // Without a jump by the kind, as a `match` makes one: kinds come in any order.
+        if !(1..=2).contains(&number) {
+            return Err(Refusal::Calendar);
         }
+        Ok(if number == 1 {
+            Kind::Term
+        } else {
+            Kind::Closed
+        })
     }
 }
 
@@ -62,6 +65,28 @@ impl TryFrom<[u8; 8]> for Period {
             first,
             last,
         })
+    }
+}
+
+// How many of Monday to Friday come before a day. Without a jump: `saturating_sub` and `min` in a row make one.
+fn weekdays_before(monday: u32, day: u32) -> usize
+    ensures { result ≡ min (day - monday) 5 }
+{
+    if day <= monday {
+        0
+    } else {
+        (day - monday).min(5) as usize
+    }
+}
+
+impl Period {
+    // Those of Monday to Friday that lie in it.
+    fn weekdays(self, monday: u32) -> u16
+        ensures { (i : ℕ) → has result i ≡ (less i 5 and lies (monday + i) (record_of self)) }
+    {
+        let until = weekdays_before(monday, self.last as u32 + 1);
+        let from = weekdays_before(monday, self.first as u32);
+        difference(all(until), all(from))
     }
 }
 
@@ -105,22 +130,6 @@ impl Marks {
     }
 }
 
-// How many of Monday to Friday come before a day.
-fn weekdays_before(monday: u32, day: u32) -> usize
-    ensures { result ≡ min (day - monday) 5 }
-{
-    day.saturating_sub(monday).min(5) as usize
-}
-
-// Those of Monday to Friday that lie in the period.
-fn weekdays_in(monday: u32, period: Period) -> u16
-    ensures { (i : ℕ) → has result i ≡ (less i 5 and lies (monday + i) (record_of period)) }
-{
-    let until = weekdays_before(monday, period.last as u32 + 1);
-    let from = weekdays_before(monday, period.first as u32);
-    difference(sets::all(until), sets::all(from))
-}
-
 // The one pass over the records. It stops at one that is not well formed.
 fn mark_days(calendar: &[u8], monday: u32) -> Result<[Marks; 16], Refusal>
     ensures { MarksAll calendar.now monday result }
@@ -133,44 +142,28 @@ fn mark_days(calendar: &[u8], monday: u32) -> Result<[Marks; 16], Refusal>
     for record in records {
         let period = Period::try_from(*record)?;
         let marks = &mut sites[period.site as usize - 1];
-        *marks = marks.with(period.kind, weekdays_in(monday, period));
+        *marks = marks.with(period.kind, period.weekdays(monday));
     }
     Ok(sites)
 }
 
-// The sites with a day of term that is not closed.
-fn taking_part(sites: &[Marks; 16]) -> u16
-    ensures { Collected (some_day_at sites.now) 16 result }
+// The numbering of the sites with a day of term that is not closed, in rising number.
+fn numbered(sites: &[Marks; 16]) -> Numbering
+    ensures { result ≡ numbering_of (open_in sites.now) }
 {
-    let mut set = sets::empty();
+    let mut numbering = Numbering {
+        n: 0,
+        process_of: [0; 16],
+        site_of: [0; 16],
+    };
     for (i, marks) in sites.iter().enumerate() {
         if marks.has_open_day() {
-            set = insert(set, i);
+            numbering.site_of[numbering.n as usize] = i as u8 + 1;
+            numbering.n += 1;
+            numbering.process_of[i] = numbering.n;
         }
     }
-    set
-}
-
-// The numbering of a set of sites, site s at bit s - 1, in rising number.
-fn numbered(set: u16) -> Numbering
-    ensures { result ≡ numbering_of (in_set set) }
-{
-    let mut process_of = [0; 16];
-    let mut site_of = [0; 16];
-    let mut n = 0;
-    for i in 0..16 {
-        let site = i + 1;
-        if member(set, site - 1) {
-            site_of[n] = site as u8;
-            n += 1;
-            process_of[site - 1] = n as u8;
-        }
-    }
-    Numbering {
-        n: n as u8,
-        process_of,
-        site_of,
-    }
+    numbering
 }
 
 // Which sites take part in a week, and their numbering.
@@ -178,9 +171,9 @@ pub fn week(calendar: &[u8], week: u16) -> Result<Numbering, Refusal>
     ensures { result ≡ week_of calendar.now week }
 {
     let sites = mark_days(calendar, 7 * week as u32)?;
-    let set = taking_part(&sites);
-    if set == 0 {
+    let numbering = numbered(&sites);
+    if numbering.n == 0 {
         return Err(Refusal::NoSite);
     }
-    Ok(numbered(set))
+    Ok(numbering)
 }

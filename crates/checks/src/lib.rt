@@ -1,5 +1,5 @@
 // Checks 6 to 9 of each event, on the parts of the bench that it looks at: the first that fails refuses it.
-#![tactic(auto, unfolding(bench::specs::Calls::answer_of, sets::specs::Truth::check, sets::specs::Truth::select, sets::specs::Truth::same, sets::specs::Truth::less))]
+#![tactic(auto)]
 
 ghost use Rattle.std.specs.Prelude.{◌≡◌, ◌<◌, ◌≤◌};
 ghost use Rattle.bench.specs.Calls.{answer_of};

@@ -5,23 +5,9 @@
 ghost use Rattle.std.specs.Prelude.{◌≡◌};
 ghost use Rattle.aggregates.specs.Aggregates.{total_of, go_of, lead_of, change_of};
 ghost use Rattle.sets.specs.Truth.{bit};
-ghost use Rattle.export_aggregates.specs.Words.{refusal_in, word_in};
+ghost use Rattle.refusal.specs.Host.{answer_number, word_in, stored_in};
 
-use refusal::Refusal;
-
-// Writes what is given into the lent word. 0, or the number of the refusal.
-#[tactic(auto, unfolding(crate::specs::Words::refusal_in, crate::specs::Words::word_in))]
-fn put<T: Drop>(answer: Result<T, Refusal>, word: &mut T) -> u32
-    ensures { (result ≡ refusal_in answer) × (word.new ≡ word_in (λ v. v) answer word.old) }
-{
-    match answer {
-        Ok(given) => {
-            *word = given;
-            0
-        }
-        Err(refusal) => u32::from(refusal.number()),
-    }
-}
+use refusal::store;
 
 #[unsafe(no_mangle)]
 pub extern "C" fn gerzulan_total(
@@ -31,20 +17,19 @@ pub extern "C" fn gerzulan_total(
     standing: &[u32],
     sum: &mut u64,
 ) -> u32
-    ensures { (result ≡ refusal_in (total_of n entries.now marks standing.now))
-        × (sum.new
-        ≡ word_in (λ v. v) (total_of n entries.now marks standing.now) sum.old) }
+    ensures { (result ≡ answer_number (total_of n entries.now marks standing.now))
+        × (sum.new ≡ stored_in (total_of n entries.now marks standing.now) sum.old) }
 {
-    put(aggregates::total(n, entries, marks, standing), sum)
+    store(aggregates::total(n, entries, marks, standing), sum)
 }
 
 // 1 for go, else 0.
 #[unsafe(no_mangle)]
 pub extern "C" fn gerzulan_go(n: u8, entries: &[u32], marks: u16, go: &mut u8) -> u32
-    ensures { (result ≡ refusal_in (go_of n entries.now marks))
+    ensures { (result ≡ answer_number (go_of n entries.now marks))
         × (go.new ≡ word_in bit (go_of n entries.now marks) go.old) }
 {
-    put(aggregates::go(n, entries, marks).map(u8::from), go)
+    store(aggregates::go(n, entries, marks).map(u8::from), go)
 }
 
 // The process and its portions.
@@ -56,15 +41,15 @@ pub extern "C" fn gerzulan_lead(
     process: &mut u8,
     value: &mut u32,
 ) -> u32
-    ensures { (result ≡ refusal_in (lead_of n entries.now marks))
+    ensures { (result ≡ answer_number (lead_of n entries.now marks))
         × (process.new
         ≡ word_in (λ c. c.process) (lead_of n entries.now marks) process.old)
         × (value.new
         ≡ word_in (λ c. c.portions) (lead_of n entries.now marks) value.old) }
 {
     let lead = aggregates::lead(n, entries, marks);
-    put(lead.map(|c| u32::from(c.portions)), value);
-    put(lead.map(|c| c.process), process)
+    store(lead.map(|c| u32::from(c.portions)), value);
+    store(lead.map(|c| c.process), process)
 }
 
 #[unsafe(no_mangle)]
@@ -76,12 +61,9 @@ pub extern "C" fn gerzulan_change(
     standing: u32,
     difference: &mut i64,
 ) -> u32
-    ensures { (result ≡ refusal_in (change_of n entries.now marks process standing))
-        × (difference.new
-        ≡ word_in (λ z. z) (change_of n entries.now marks process standing) difference.old) }
+    ensures { (result ≡ answer_number (change_of n entries.now marks process standing))
+        × (difference.new ≡ stored_in (change_of n entries.now marks process standing) difference.old) }
 {
-    put(
-        aggregates::change(n, entries, marks, process, standing),
-        difference,
-    )
+    let answer = aggregates::change(n, entries, marks, process, standing);
+    store(answer, difference)
 }

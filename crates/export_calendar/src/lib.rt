@@ -4,21 +4,16 @@
 
 ghost use Rattle.std.specs.Prelude.{◌≡◌};
 ghost use Rattle.calendar.specs.Calendar.{week_of};
-ghost use Rattle.export_calendar.specs.Numbers.{number_in, numbering_in};
+ghost use Rattle.refusal.specs.Host.{answer_number, stored_in};
 
 use calendar::Numbering;
+use refusal::store;
 
 // Which sites take part in a week, and their numbering. Refused, out stays.
 #[unsafe(no_mangle)]
 pub extern "C" fn gerzulan_calendar_week(calendar: &[u8], week: u16, out: &mut Numbering) -> u32
-    ensures { (result ≡ number_in (week_of calendar.now week))
-        × (out.new ≡ numbering_in (week_of calendar.now week) out.old) }
+    ensures { (result ≡ answer_number (week_of calendar.now week))
+        × (out.new ≡ stored_in (week_of calendar.now week) out.old) }
 {
-    match calendar::week(calendar, week) {
-        Ok(numbering) => {
-            *out = numbering;
-            0
-        }
-        Err(refusal) => refusal.number() as u32,
-    }
+    store(calendar::week(calendar, week), out)
 }

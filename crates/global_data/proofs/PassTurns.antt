@@ -1,17 +1,16 @@
 -- One pass over the rows of the members of a set, the lowest first, turn by turn: the next member is filled in and
 -- compared, by the definitions. What has been made and what is left give together what the definitions say of all.
-use Rattle.std.specs.Prelude.{◌≡◌, refl, ◌⊎◌, Bool, true, false, List, [], ◌∷◌, ℕ, zero, suc, ◌+◌, ◌-◌, ◌≤◌, ◌<◌, length}
+use Rattle.std.specs.Prelude.{◌≡◌, refl, ◌⊎◌, Bool, true, false, List, ℕ, zero, suc, ◌+◌, ◌-◌, ◌<◌}
 use Rattle.std.proofs.Common.{sym, ap, ◌∙◌, inl, inr, arith}
 use Rattle.sets.specs.Laws.{has_empty, has_remove}
-use Rattle.sets.specs.LowestLaws.{lowest_least}
-use Rattle.sets.specs.MembersLaws.{Left, Turn, left_none}
-use Rattle.sets.specs.Set.{has, remove_of, lowest_of}
-use Rattle.sets.specs.Truth.{◌and◌, same}
+use Rattle.sets.specs.MembersLaws.{Turn}
+use Rattle.sets.specs.Set.{has, remove_of}
+use Rattle.sets.specs.Truth.{◌and◌}
 use Rattle.sets.specs.TruthLaws.{Is, on, off, is, by_both, clash, and_first, and_second, and_mk, and_on_r, and_off_r}
 use Rattle.sets.specs.TruthLaws.{same_refl, same_off, eq-or}
 use Rattle.global_data.specs.declared.GlobalData.{GlobalData}
 use Rattle.global_data.specs.GlobalData.{fill_of, fill_from, same_to, all_same}
-use Rattle.global_data.proofs.Laws.{fill_from_on, fill_from_off, fill_length, all_same_on, all_same_mk}
+use Rattle.global_data.proofs.Laws.{fill_from_on, fill_from_off, all_same_on, all_same_mk}
 
 -- where no member is below p, nothing is filled in below p
 fill_low : (m : ℕ) (rows : ℕ → GlobalData) (g : GlobalData) (p : ℕ) → ((i : ℕ) → i < p → has m i ≡ false)

@@ -28,9 +28,13 @@ use Rattle.process.specs.Steps.{close_of, adopt_of, send_of, suspect_of}
 
 -- ---- a step by cases
 
+-- the set j of l, with y in it where j is `at`
+abbrev pub word_of : List ℕ → ℕ → ℕ → ℕ → ℕ
+word_of l at y j = select (same at j) (insert_of (get_or l j 0) y) (get_or l j 0)
+
 -- the sets of l, with y in the one at `at`, each written anew
 unfoldable pub words_with : List ℕ → ℕ → ℕ → List ℕ
-words_with l at y = each 16 (λ j. select (same at j) (insert_of (get_or l j 0) y) (get_or l j 0))
+words_with l at y = each 16 (word_of l at y)
 
 module _ (l : List ℕ) (at y : ℕ) (e : length l ≡ 16) where
   -- the one at `at` changes

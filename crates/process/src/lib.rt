@@ -2,7 +2,7 @@
 // on it.
 #![tactic(auto)]
 
-ghost use Rattle.std.specs.Prelude.{◌≡◌, ℕ, ◌<◌, ◌≤◌, length};
+ghost use Rattle.std.specs.Prelude.{◌≡◌, ℕ, ◌<◌, ◌≤◌};
 ghost use Rattle.global_data.specs.Rows.{Gives};
 ghost use Rattle.global_data.specs.declared.GlobalData.{GlobalData};
 ghost use Rattle.global_data.specs.GlobalData.{rows_of};
@@ -57,6 +57,7 @@ pub struct Closed {
 
 impl Closing {
     // The next round is open: the close has not decided.
+    #[tactic(auto, unfolding(crate::specs::Steps::opens_next, crate::specs::Steps::closing_number, sets::specs::Truth::same))]
     fn opens_next(self) -> bool
         ensures { result ≡ opens_next self }
     {
@@ -74,28 +75,14 @@ fn word_with(m: u16, put: bool, y: usize) -> u16
 
 // The sets, with y in the one at `at`; at 16 there is none. Each is written, since a store at an index that is known
 // late makes the next read wait.
-fn words_with(words: [u16; 16], at: u16, y: usize) -> [u16; 16]
+fn words_with(mut words: [u16; 16], at: u16, y: usize) -> [u16; 16]
     requires { y < 16 }
     ensures { result ≡ words_with words at y }
 {
-    [
-        word_with(words[0], at == 0, y),
-        word_with(words[1], at == 1, y),
-        word_with(words[2], at == 2, y),
-        word_with(words[3], at == 3, y),
-        word_with(words[4], at == 4, y),
-        word_with(words[5], at == 5, y),
-        word_with(words[6], at == 6, y),
-        word_with(words[7], at == 7, y),
-        word_with(words[8], at == 8, y),
-        word_with(words[9], at == 9, y),
-        word_with(words[10], at == 10, y),
-        word_with(words[11], at == 11, y),
-        word_with(words[12], at == 12, y),
-        word_with(words[13], at == 13, y),
-        word_with(words[14], at == 14, y),
-        word_with(words[15], at == 15, y),
-    ]
+    for (i, word) in words.iter_mut().enumerate() {
+        *word = word_with(*word, at == i as u16, y);
+    }
+    words
 }
 
 // The steps. `n` is how many processes there are, `a` the number of this one, from 0.
@@ -136,9 +123,8 @@ impl Process {
         requires round_bound { self.round < 255 }
         ensures { result ≡ open_round_of a self }
     {
-        let others = sets::remove(self.current, a);
-        self.round = self.round + 1;
-        self.outbox = others;
+        self.round += 1;
+        self.outbox = sets::remove(self.current, a);
         self
     }
 
@@ -149,12 +135,10 @@ impl Process {
         ensures { result ≡ start_of n a value self }
     {
         let all = sets::all(n);
-        let current = sets::difference(all, self.suspected);
-        let g = GlobalData::one(a, value);
         self.round = 0;
         self.previous = all;
-        self.current = current;
-        self.estimate = g;
+        self.current = sets::difference(all, self.suspected);
+        self.estimate = GlobalData::one(a, value);
         self.open_round(a)
     }
 
@@ -163,7 +147,7 @@ impl Process {
         requires { y < 16 }
         ensures { result ≡ keeps self y r }
     {
-        let at = self.round as usize;
+        let at = usize::from(self.round);
         !self.has_decided() & ((at < r) | ((r == at) & sets::member(self.current, y)))
     }
 
@@ -174,9 +158,7 @@ impl Process {
         ensures { result ≡ receive_of y r self }
     {
         let at = if self.keeps(y, r) { (r - 1) as u16 } else { 16 };
-        let words = self.received;
-        let received = words_with(words, at, y);
-        self.received = received;
+        self.received = words_with(self.received, at, y);
         self
     }
 
@@ -186,9 +168,7 @@ impl Process {
         requires le_round { (1 ≤ self.round) × (self.round ≤ 16) }
         ensures { result ≡ arrived_of a self }
     {
-        let k = (self.round - 1) as usize;
-        let words = self.received;
-        sets::insert(words[k], a)
+        sets::insert(self.received[usize::from(self.round - 1)], a)
     }
 
     // Step 4: each member of the current set has arrived or is suspected.
@@ -209,21 +189,13 @@ impl Process {
         sets::intersection(self.current, self.arrived(a))
     }
 
-    // Its own old estimate. That it has sixteen words is known where the process is a parameter.
-    pub fn old_estimate(self) -> GlobalData
-        ensures { (result ≡ self.estimate) × (length result.values ≡ 16) }
-    {
-        let old = self.estimate;
-        old
-    }
-
     // How the round ends, where `next` is the next set and `alike` says whether no estimate of that set differs from
     // its own old one. The last round is asked for first.
     fn ending(self, t: usize, next: u16, alike: bool) -> Closing
         requires { t < 16 }
         ensures { result ≡ closing_by t next alike self }
     {
-        if self.round as usize == t + 1 {
+        if usize::from(self.round) == t + 1 {
             return Closing::LastRound;
         }
         if (self.previous == next) & alike {
@@ -242,19 +214,16 @@ impl Process {
         ensures { (result.process ≡ finish_of n t a next alike self) × (result.closing ≡ closing_by t next alike self) }
     {
         let closing = self.ending(t, next, alike);
-        // what changes is set in place: a process that either arm gave would be copied once more
-        let mut process = self;
-        if closing.opens_next() {
-            let others = sets::remove(next, a);
-            process.previous = self.current;
-            process.current = next;
-            process.round = self.round + 1;
-            process.outbox = others;
+        let process = if closing.opens_next() {
+            let closed = Process {
+                previous: self.current,
+                current: next,
+                ..self
+            };
+            closed.open_round(a)
         } else {
-            let others = self.owed(n, a);
-            process.decided = 1;
-            process.outbox = others;
-        }
+            self.decide(self.estimate, self.owed(n, a))
+        };
         Closed { process, closing }
     }
 
@@ -275,10 +244,11 @@ impl Process {
             → (result.process ≡ close_of n t a rows self) × (result.closing ≡ closing_of n t a rows self) }
     {
         let next = self.next(a);
-        let passed = pass(self.estimate, sets::remove(next, a), n, row);
-        let mut c = self.finish(n, t, a, next, passed.alike);
-        c.process.estimate = passed.filled;
-        c
+        let others = sets::remove(next, a);
+        let passed = pass(self.estimate, others, n, row);
+        let mut closed = self.finish(n, t, a, next, passed.alike);
+        closed.process.estimate = passed.filled;
+        closed
     }
 
     // The same, where `rows` has what each process sent.
@@ -331,7 +301,7 @@ impl Process {
         if self.has_decided() {
             0
         } else {
-            self.round as usize
+            usize::from(self.round)
         }
     }
 
@@ -340,8 +310,7 @@ impl Process {
         requires { b < 16 }
         ensures { result ≡ send_of b self }
     {
-        let rest = sets::remove(self.outbox, b);
-        self.outbox = rest;
+        self.outbox = sets::remove(self.outbox, b);
         self
     }
 
@@ -350,8 +319,7 @@ impl Process {
         requires { b < 16 }
         ensures { result ≡ suspect_of b self }
     {
-        let more = sets::insert(self.suspected, b);
-        self.suspected = more;
+        self.suspected = sets::insert(self.suspected, b);
         self
     }
 }

@@ -3,6 +3,7 @@
 
 ghost use Rattle.std.specs.Prelude.{◌≡◌};
 ghost use Rattle.refusal.specs.Numbers.{refusal_number};
+ghost use Rattle.refusal.specs.Host.{answer_number, stored_in};
 
 #[derive(Clone, Copy, Debug, PartialEq, Eq)]
 pub enum Refusal {
@@ -63,5 +64,29 @@ impl Refusal {
             Refusal::Diet => 15,
             Refusal::LargeValue => 16,
         }
+    }
+}
+
+// An answer as a host in C gets it: 0, or the number of the refusal.
+pub fn answer_number<T: Drop>(answer: &Result<T, Refusal>) -> u32
+    ensures { result ≡ answer_number answer.now }
+{
+    match answer {
+        Ok(_) => 0,
+        Err(r) => r.number() as u32,
+    }
+}
+
+// The same, with what is given stored in what the host lends; refused, that stays.
+pub fn store<T: Copy>(answer: Result<T, Refusal>, out: &mut T) -> u32
+    ensures number { result ≡ answer_number answer }
+    ensures stored { out.new ≡ stored_in answer out.old }
+{
+    match answer {
+        Ok(x) => {
+            *out = x;
+            0
+        }
+        Err(r) => r.number() as u32,
     }
 }

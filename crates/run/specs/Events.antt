@@ -1,7 +1,5 @@
 -- What an event comes to, whether it is accepted or refused.
-use Rattle.std.specs.Prelude.{List, ℕ, ◌+◌, ◌*◌, get_or, Result, Ok, Err}
-use Rattle.global_data.specs.declared.GlobalData.{GlobalData}
-use Rattle.global_data.specs.GlobalData.{no_data}
+use Rattle.std.specs.Prelude.{ℕ, Result, Ok, Err}
 use Rattle.sets.specs.Truth.{same, select}
 use Rattle.refusal.specs.declared.Refusal.{Refusal}
 use Rattle.refusal.specs.Numbers.{refused}
@@ -14,8 +12,8 @@ use Rattle.process.specs.declared.Closing.{Closing}
 use Rattle.process.specs.Steps.{closing_of}
 
 -- the bench after the event: refused, as it was
-unfoldable pub moved : Event → Bench → Bench
-moved e s = select (same (refuses e s) 0) (effect e s) s
+unfoldable pub after_event : Event → Bench → Bench
+after_event e s = select (same (refuses e s) 0) (effect e s) s
 
 -- the verdict with a number: 0 accepts, with x
 unfoldable pub verdict_of : {A : Type 0} → ℕ → A → Result A Refusal
@@ -24,11 +22,3 @@ verdict_of k x = select (same k 0) (Ok x) (Err (refused k))
 -- how the round of a ends where it closes
 unfoldable pub closed_of : ℕ → Bench → Closing
 closed_of a s = closing_of s.n s.t a (rows_at s (process_at s a).round) (process_at s a)
-
--- the rows of round r + 1, where they lie
-abbrev pub rows_in : List GlobalData → ℕ → ℕ → GlobalData
-rows_in sent r y = get_or sent (y * 16 + r) no_data
-
--- words with their marks
-abbrev pub marked : ℕ → List ℕ → GlobalData
-marked m words = record { present = m; values = words }

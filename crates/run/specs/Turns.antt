@@ -1,25 +1,19 @@
 -- What the laws of bench say of run's code, with the parts of the bench named that it reads and stores: each event's
 -- check and effect, and a turn of the loop.
-use Rattle.std.specs.Prelude.{◌≡◌, ◌≢◌, List, [], ◌∷◌, Bool, true, false, ℕ, zero, suc, ◌+◌, ◌-◌, ◌*◌, ◌/◌, ◌%◌, ◌^◌, ◌≤◌, ◌<◌, length, get_or, set, take, drop, ◌++◌, min, Result, Ok, Err, Option, Some, None}
+use Rattle.std.specs.Prelude.{◌≡◌, ◌≢◌, List, true, false, ℕ, ◌+◌, ◌-◌, ◌*◌, ◌≤◌, ◌<◌, length, get_or, set, take, drop, ◌++◌, min, Result, Ok, Err, Option, Some, None}
 use Rattle.std.proofs.Math.Path.{refl, sym, ap, subst}
 use Rattle.std.proofs.Common.{◌∙◌, ⊎_elim, take_all, drop_of_length-le}
 use Rattle.std.proofs.Math.Seq.{take-append_seam, drop-append_seam, take-length}
 use Rattle.std.specs.Option.{option_or}
-use Rattle.std.proofs.Math.Nat.{div-eq_of_lt}
 use native.Mathlib.Omega.{arith}
 use Rattle.sets.specs.Set.{insert_of, remove_of}
 use Rattle.sets.specs.Truth.{select, same, ◌or◌}
 use Rattle.sets.specs.TruthLaws.{and_first, Is, on, off, is, clash, select_on, select_off, check-zero, same_on, same_off, same_not, same_mk, le-or}
 use Rattle.global_data.specs.declared.GlobalData.{GlobalData}
-use Rattle.global_data.specs.GlobalData.{no_data, fill_from, all_same}
-use Rattle.global_data.proofs.PassLaws.{Passing}
 use Rattle.process.specs.declared.Process.{Process}
 use Rattle.process.specs.declared.Closing.{Closing}
 use Rattle.process.specs.Laws.{decide_decided, open_round}
-use Rattle.process.specs.Fields.{with_estimate}
-use Rattle.process.specs.ClosingLaws.{closing_by, finish_of}
-use Rattle.process.proofs.ClosingLaws.{close_passed}
-use Rattle.process.specs.Steps.{has_decided, open_round_of, start_of, next_of, filled_of, closing_of}
+use Rattle.process.specs.Steps.{has_decided, open_round_of, start_of, filled_of}
 use Rattle.process.specs.Steps.{decides_of, advance_of, close_of, message_of, send_of, suspect_of, receive_of, adopt_of}
 use Rattle.refusal.specs.declared.Refusal.{Refusal}
 use Rattle.refusal.specs.Numbers.{refused, refusal_number}
@@ -29,9 +23,9 @@ use Rattle.bench.specs.declared.Message.{Message}
 use Rattle.bench.specs.declared.Message.TheVariants.{Estimate, Decision}
 use Rattle.bench.specs.declared.Event.{Event}
 use Rattle.bench.specs.declared.Event.TheVariants.{Start, Send, Arrive, Close, Crash, Suspect}
-use Rattle.bench.specs.State.{bench_of, process_at, sent_at, transit_at, crashed_at, with_process, with_sent, with_transit, with_crashed}
+use Rattle.bench.specs.State.{bench_of, process_at, transit_at, crashed_at, with_process, with_sent, with_transit, with_crashed}
 use Rattle.bench.specs.Sound.{sound_of}
-use Rattle.bench.proofs.SoundLaws.{Bounds, sound_on, sound_step}
+use Rattle.bench.proofs.SoundLaws.{sound_on, sound_step}
 use Rattle.bench.proofs.RecordLaws.{MessageIn, InRange, decode_refused}
 use Rattle.bench.specs.Record.{decode_of, v2, decode_as}
 use Rattle.bench.proofs.RefuseLaws.{refusal_unread, refusal_event, refused-keeps, accepted_effect}
@@ -43,38 +37,11 @@ use Rattle.bench.specs.Refuse.{number_of, actor, is_crash, passes7, passes8, pas
 use Rattle.bench.specs.Effect.{opens_round, rows_at, sends, arrives, closes_as, effect}
 use Rattle.bench.specs.Closings.{closing_at, last_of}
 use Rattle.bench.specs.Calls.{answer_of, after_record, run_of}
-use Rattle.checks.specs.Checks.{first_failed, start_check, message_check, close_check}
+use Rattle.checks.specs.Checks.{start_check, message_check, close_check}
 use Rattle.checks.specs.Checks.{crash_check, suspect_check, takes_started}
-use Rattle.run.specs.Events.{moved, verdict_of, closed_of, rows_in, marked}
+use Rattle.run.specs.Events.{after_event, verdict_of, closed_of}
 
--- ---- an answer with a number k: accepted, the number is 0; refused, it is that of the refusal. So is any verdict
-module _ (k : ℕ) where
-  pub answer_ok : Ok tt ≡ answer_of k → k ≡ 0
-  unfolding answer_of
-  answer_ok h = go (is (same k 0))
-    where
-      go : Is (same k 0) → k ≡ 0
-      go (on e) = same_on k 0 e
-      go (off e) = let p : Ok tt ≡ Err (refused k) = h ∙ select_off _ _ _ e in absurd (cc p)
-
-  pub answer_err : (r : Refusal) → Err r ≡ answer_of k → (same k 0 ≡ false) × (r ≡ refused k)
-  unfolding answer_of
-  answer_err r h = go (is (same k 0))
-    where
-      go : Is (same k 0) → (same k 0 ≡ false) × (r ≡ refused k)
-      go (on e) = let p : Err r ≡ Ok tt = h ∙ select_on _ _ _ e in absurd (cc p)
-      go (off e) = (e, cc (h ∙ select_off (same k 0) (Ok tt) (Err (refused k)) e))
-
-  module _ {A : Type 0} (x : A) where
-    pub accepted_as : Ok tt ≡ answer_of k → Ok x ≡ verdict_of k x
-    unfolding verdict_of
-    accepted_as h = sym (select_on _ _ _ (same_mk k 0 (answer_ok h)))
-
-    pub refused_as : (r : Refusal) → Err r ≡ answer_of k → Err r ≡ verdict_of k x
-    unfolding verdict_of
-    refused_as r h = let e = answer_err r h in ap Err e.1 ∙ sym (select_off _ _ _ e.0)
-
--- ---- a verdict with a number k
+-- ---- a verdict with a number k: accepted, the number is 0; refused, it is that of the refusal
 module _ {A : Type 0} (k : ℕ) (x : A) where
   pub verdict_ok : (z : A) → Ok z ≡ verdict_of k x → (k ≡ 0) × (z ≡ x)
   unfolding verdict_of
@@ -92,35 +59,51 @@ module _ {A : Type 0} (k : ℕ) (x : A) where
       go (on e) = let p : Err r ≡ Ok x = h ∙ select_on _ _ _ e in absurd (cc p)
       go (off e) = let p : Err r ≡ Err (refused k) = h ∙ select_off _ _ _ e in (same_not k 0 e, cc p)
 
--- a verdict told on: the same refusal, or f of what was accepted
+  accepts : k ≡ 0 → Ok x ≡ verdict_of k x
+  unfolding verdict_of
+  accepts z = sym (select_on _ _ _ (same_mk k 0 z))
+
+  refuses_by : (r : Refusal) → (k ≢ 0) × (r ≡ refused k) → Err r ≡ verdict_of k x
+  unfolding verdict_of
+  refuses_by r e = ap Err e.1 ∙ sym (select_off _ _ _ (same_off k 0 e.0))
+
+-- told on: the same refusal, or f of what was accepted
 module _ {A B : Type 0} (k : ℕ) (x : A) (f : A → B) where
   pub told_err : (r : Refusal) → Err r ≡ verdict_of k x → Err r ≡ verdict_of k (f x)
-  unfolding verdict_of select
-  told_err r h = go (is (same k 0))
-    where
-      go : Is (same k 0) → Err r ≡ verdict_of k (f x)
-      go (on e) = let p : Err r ≡ Ok x = h ∙ select_on _ _ _ e in absurd (cc p)
-      go (off e) = let p : Err r ≡ Err (refused k) = h ∙ select_off _ _ _ e in let q : r ≡ refused k = cc p in rw (e, q)
+  told_err r h = refuses_by k (f x) r (verdict_err k x r h)
 
   pub told_ok : (z : A) → Ok z ≡ verdict_of k x → Ok (f z) ≡ verdict_of k (f x)
-  unfolding verdict_of select
-  told_ok z h = go (is (same k 0))
-    where
-      go : Is (same k 0) → Ok (f z) ≡ verdict_of k (f x)
-      go (on e) = let p : Ok z ≡ Ok x = h ∙ select_on _ _ _ e in let q : z ≡ x = cc p in rw (e, q)
-      go (off e) = let p : Ok z ≡ Err (refused k) = h ∙ select_off _ _ _ e in absurd (cc p)
+  told_ok z h = let e = verdict_ok k x z h in ap (λ (y : A). Ok (f y)) e.1 ∙ accepts k (f x) e.0
+
+-- an answer is a verdict that tells nothing
+module _ (k : ℕ) where
+  answer_is : answer_of k ≡ verdict_of k tt
+  unfolding answer_of verdict_of
+  answer_is = refl
+
+  pub answer_ok : Ok tt ≡ answer_of k → k ≡ 0
+  answer_ok h = (verdict_ok k tt tt (h ∙ answer_is)).0
+
+  pub answer_err : (r : Refusal) → Err r ≡ answer_of k → (k ≢ 0) × (r ≡ refused k)
+  answer_err r h = verdict_err k tt r (h ∙ answer_is)
+
+  pub accepted_as : {A : Type 0} (x : A) → Ok tt ≡ answer_of k → Ok x ≡ verdict_of k x
+  accepted_as x h = accepts k x (answer_ok h)
+
+  pub refused_as : {A : Type 0} (x : A) (r : Refusal) → Err r ≡ answer_of k → Err r ≡ verdict_of k x
+  refused_as x r h = refuses_by k x r (answer_err r h)
 
 -- ---- an event with the number k, which the code's check gives
 module _ (e : Event) (s : Bench) (k : ℕ) (p : refuses e s ≡ k) where
-  pub stays : (r : Refusal) → Err r ≡ answer_of k → s ≡ moved e s
-  unfolding moved
-  stays r h = sym (select_off _ _ _ (rw p (answer_err k r h).0))
+  pub stays : (r : Refusal) → Err r ≡ answer_of k → s ≡ after_event e s
+  unfolding after_event
+  stays r h = sym (select_off _ _ _ (same_off _ 0 (λ z. (answer_err k r h).0 (sym p ∙ z))))
 
   pub same_answer : (x : Result (Unit {0}) Refusal) → x ≡ answer_of k → x ≡ answer_of (refuses e s)
   same_answer x h = rw p h
 
-  pub goes : Ok tt ≡ answer_of k → (d : Bench) → d ≡ effect e s → d ≡ moved e s
-  unfolding moved
+  pub goes : Ok tt ≡ answer_of k → (d : Bench) → d ≡ effect e s → d ≡ after_event e s
+  unfolding after_event
   goes h d q = q ∙ sym (select_on _ _ _ (same_mk _ 0 (p ∙ answer_ok k h)))
 
 -- ---- each event's check is that of the code, on the parts of the bench
@@ -274,24 +257,6 @@ module _ (s : Bench) where
   unfolding effect
   effect_suspect a b p h = ap (with_process s a) h
 
--- ---- the rows of a round: the one at i, where the pass has come to, is of that round
-pub row_at : (sent : List GlobalData) (r i : ℕ) → i % 16 ≡ r → get_or sent i no_data ≡ rows_in sent r (i / 16)
-row_at sent r i e = ap (λ (k : ℕ). get_or sent k no_data) (omega arith)
-
--- a row that is stored whole, and then its marks
-remarked : (l : List GlobalData) (j m : ℕ) (g : GlobalData)
-    → set (set l j g) j (marked m (get_or (set l j g) j no_data).values) ≡ set l j (marked m g.values)
-remarked [] j m g = refl
-remarked (x ∷ l) zero m g = refl
-remarked (x ∷ l) (suc j) m g = ap (λ (r : List GlobalData). x ∷ r) (remarked l j m g)
-
--- a has opened a round as p, whose row was stored so
-pub opened_marked : (s : Bench) (a j m : ℕ) (g : GlobalData) (p : Process)
-    → bench_of s.n s.t s.crashed (set s.processes a (with_estimate (marked m g.values) p))
-    (set (set s.sent j g) j (marked m (get_or (set s.sent j g) j no_data).values)) s.in_transit
-    ≡ opened_at s a j (with_estimate (marked m g.values) p)
-opened_marked s a j m g p = rw (remarked s.sent j m g)
-
 -- ---- what a close of a comes to: q is the process then, x the code's closing
 pub record Closes (x : Closing) (s : Bench) (a : ℕ) (q : Process) : Type 0 where
   pub closing : x ≡ closed_of a s
@@ -299,52 +264,25 @@ pub record Closes (x : Closing) (s : Bench) (a : ℕ) (q : Process) : Type 0 whe
   pub opens : has_decided q ≡ false → (j : ℕ) → j ≡ a * 16 + (q.round - 1) → opened_at s a j q ≡ effect (Close a) s
   pub round : has_decided q ≡ false → s.t < 16 → (process_at s a).round ≤ s.t + 1 → (1 ≤ q.round) × (q.round ≤ 16)
 
--- once its pass is made: `next` is the code's next set, and q what it makes of a but for the estimate
-module _ (x : Closing) (s : Bench) (a r next m : ℕ) (g : GlobalData) (alike : Bool) (q : Process)
-    (e : r ≡ (process_at s a).round - 1) (f : next ≡ next_of a (process_at s a)) (h : m ≡ remove_of next a)
-    (b : m < 2 ^ 16) (fills : g ≡ fill_from 16 m (rows_in s.sent r) (process_at s a).estimate)
-    (compares : alike ≡ all_same 16 s.n m (rows_in s.sent r) (process_at s a).estimate)
-    (few : s.n ≤ 16) (k : (q ≡ finish_of s.n s.t a next alike (process_at s a))
-    × (x ≡ closing_by s.t next alike (process_at s a))) where
-  abbrev rows : ℕ → GlobalData
-  rows = rows_at s (process_at s a).round
-
-  abbrev after : Process
-  after = with_estimate g q
-
-  passed : Passing s.n m (rows_in s.sent r) (process_at s a).estimate 16 0 g alike
-  passed =
-      record {
-        few = b;
-        within = omega arith;
-        others = sym (div-eq_of_lt {n = m} {m = 2 ^ 16} b);
-        fills = fills;
-        compares = compares;
-      }
-
-  -- the process and the closing are those of the definitions, on the rows of the round
-  closed : (after ≡ close_of s.n s.t a rows (process_at s a))
-      × (x ≡ closing_of s.n s.t a rows (process_at s a))
-  unfolding rows_at sent_at
-  closed = close_passed s.n s.t a rows (process_at s a) next 16 g alike q x f (rw (e, h) at passed) few k
-
-  opened : has_decided after ≡ false → (after.round ≡ (process_at s a).round + 1) × ((process_at s a).round ≢ s.t + 1)
+-- once it is made: the process and the closing are those of the definitions, on the rows of the round
+module _ (x : Closing) (s : Bench) (a : ℕ) (q : Process)
+    (closed : (q ≡ close_of s.n s.t a (rows_at s (process_at s a).round) (process_at s a)) × (x ≡ closed_of a s)) where
+  opened : has_decided q ≡ false → (q.round ≡ (process_at s a).round + 1) × ((process_at s a).round ≢ s.t + 1)
   opened d =
       subst (λ (p : Process). (p.round ≡ (process_at s a).round + 1) × ((process_at s a).round ≢ s.t + 1)) (sym closed.0)
-      (close_opens s.n s.t a rows (process_at s a) (subst (λ (p : Process). has_decided p ≡ false) closed.0 d))
+      (close_opens s.n s.t a (rows_at s (process_at s a).round) (process_at s a)
+      (subst (λ (p : Process). has_decided p ≡ false) closed.0 d))
 
-  pub closes : Closes x s a after
-  unfolding effect closes_as closed_of
+  pub closes : Closes x s a q
+  unfolding effect closes_as
   closes =
       record {
         closing = closed.1;
-        decides =
-            λ d.
-            rw (← closed.0) (sym (select_on (has_decided after) (with_process s a after) (opens_round s a after) d));
+        decides = λ d. rw (← closed.0) (sym (select_on (has_decided q) (with_process s a q) (opens_round s a q) d));
         opens =
-            λ d i j.
-            opened_at_lem s a i after j
-            ∙ rw (← closed.0) (sym (select_off (has_decided after) (with_process s a after) (opens_round s a after) d));
+            λ d j e.
+            opened_at_lem s a j q e
+            ∙ rw (← closed.0) (sym (select_off (has_decided q) (with_process s a q) (opens_round s a q) d));
         round = λ d l m. omega (arith, (opened d).0, (opened d).1);
       }
 
@@ -369,11 +307,11 @@ module _ (s : Bench) (l : List ℕ) (h : sound_of s ≡ true) where
     numbered : refusal s l ≡ refuses e s
     numbered = refusal_event s l h e (sym d)
 
-    pub event_bench : moved e s ≡ after_record s l
-    unfolding moved effect_of effect_by effect_decoded decode_as
+    pub event_bench : after_event e s ≡ after_record s l
+    unfolding after_event effect_of effect_by effect_decoded decode_as
     event_bench = go (is (same (refuses e s) 0))
       where
-        go : Is (same (refuses e s) 0) → moved e s ≡ after_record s l
+        go : Is (same (refuses e s) 0) → after_event e s ≡ after_record s l
         go (on z) =
             select_on _ _ _ z
             ∙ sym (accepted_effect s l (numbered ∙ same_on _ 0 z) ∙ rw (sym d))
@@ -393,8 +331,8 @@ module _ (x t : List ℕ) where
   parted : (k : ℕ) → length x ≡ k → (x ≡ take k (x ++ t)) × (t ≡ drop k (x ++ t))
   parted k h = rw (← h) (sym (take-append_seam x t), sym (drop-append_seam x t))
 
-  pub chunk : (l : List ℕ) → l ≡ x ++ t → length x ≡ min 8 (length l) → (x ≡ take 8 l) × (t ≡ drop 8 l)
-  chunk l e h = ⊎_elim whole last (le-or 8 (length l))
+  pub next_record : (l : List ℕ) → l ≡ x ++ t → length x ≡ min 8 (length l) → (x ≡ take 8 l) × (t ≡ drop 8 l)
+  next_record l e h = ⊎_elim whole last (le-or 8 (length l))
     where
       whole : 8 ≤ length l → (x ≡ take 8 l) × (t ≡ drop 8 l)
       whole f = rw e (parted 8 (omega arith))
@@ -436,8 +374,8 @@ module _ (budget : ℕ) (l : List ℕ) (b s : Bench) (rest : List ℕ) (accepted
   ends_spent h e = sym (run_spent rest s accepted c (8 * accepted) (budget - accepted) h (omega arith)) ∙ w.gives
 
   module _ (h : length rest ≢ 0) (f : accepted ≢ budget) where
-    left : budget - accepted ≢ 0
-    left u = f (omega (arith, w.within_budget))
+    budget_left : budget - accepted ≢ 0
+    budget_left u = f (omega (arith, w.within_budget))
 
     -- the next record is refused, which leaves the bench as it is
     pub ends_refused : (r : Refusal) → Err r ≡ verdict_of (refusal s (take 8 rest)) (closing_in s (take 8 rest))
@@ -445,7 +383,7 @@ module _ (budget : ℕ) (l : List ℕ) (b s : Bench) (rest : List ℕ) (accepted
     ends_refused r v =
         let p = verdict_err _ _ r v in
         rw (p.1, refused-keeps s (take 8 rest) p.0)
-        (sym (run-refused rest s accepted c (8 * accepted) (budget - accepted) h left p.0) ∙ w.gives)
+        (sym (run-refused rest s accepted c (8 * accepted) (budget - accepted) h budget_left p.0) ∙ w.gives)
 
     -- it is accepted, and x tells how it ended a round
     pub goes_on : (x : Option Closing)
@@ -460,5 +398,5 @@ module _ (budget : ℕ) (l : List ℕ) (b s : Bench) (rest : List ℕ) (accepted
           within_budget = omega (arith, f, w.within_budget);
           gives =
               rw (p.1, ← one, ← eight, accepted_effect s (take 8 rest) p.0)
-              (sym (run_accepted rest s accepted c (8 * accepted) (budget - accepted) h left p.0) ∙ w.gives);
+              (sym (run_accepted rest s accepted c (8 * accepted) (budget - accepted) h budget_left p.0) ∙ w.gives);
         }

@@ -5,7 +5,7 @@ ghost use Rattle.bench.specs.Refuse.{number_of, refuses};
 ghost use Rattle.bench.specs.Calls.{answer_of};
 ghost use Rattle.bench.specs.State.{process_at};
 ghost use Rattle.bench.proofs.RecordLaws.{MessageIn};
-ghost use Rattle.run.specs.Events.{moved};
+ghost use Rattle.run.specs.Events.{after_event};
 
 use bench::{Bench, Message};
 use checks::{crash_check, message_check, start_check, suspect_check};
@@ -39,51 +39,53 @@ fn number(m: Message) -> usize
 
 pub(crate) fn start_in(s: &mut Bench, a: usize, value: u32) -> Result<(), Refusal>
     requires { (a < 16) × (s.old.n ≤ 16) }
-    ensures bench { s.new ≡ moved (Start a value) s.old }
+    ensures bench { s.new ≡ after_event (Start a value) s.old }
     ensures answer { result ≡ answer_of (refuses (Start a value) s.old) }
 {
     let p = s.processes[a];
     start_check(s.crashed, a, p.round)?;
     let q = p.start(s.n as usize, a, value);
-    s.sent[row_index(a, q.round)] = q.estimate;
     s.processes[a] = q;
+    s.sent[row_index(a, q.round)] = q.estimate;
     Ok(())
 }
 
 pub(crate) fn send_in(s: &mut Bench, a: usize, b: usize) -> Result<(), Refusal>
     requires bounds { (a < 16) × (b < 16) }
     requires round { (process_at s.old a).round ≤ 16 }
-    ensures bench { s.new ≡ moved (Send a b) s.old }
+    ensures bench { s.new ≡ after_event (Send a b) s.old }
     ensures answer { result ≡ answer_of (refuses (Send a b) s.old) }
 {
     let p = s.processes[a];
     message_check(s.crashed, a, p.outbox, b)?;
     let i = set_index(a, p.message());
-    s.in_transit[i] = sets::insert(s.in_transit[i], b);
     s.processes[a] = p.send(b);
+    s.in_transit[i] = sets::insert(s.in_transit[i], b);
     Ok(())
 }
 
 pub(crate) fn arrive_in(s: &mut Bench, a: usize, b: usize, m: Message) -> Result<(), Refusal>
     requires bounds { (a < 16) × (b < 16) × (s.old.n ≤ 16) }
     requires message { MessageIn 15 m }
-    ensures bench { s.new ≡ moved (Arrive a b m) s.old }
+    ensures bench { s.new ≡ after_event (Arrive a b m) s.old }
     ensures answer { result ≡ answer_of (refuses (Arrive a b m) s.old) }
 {
     let i = set_index(a, number(m));
     message_check(s.crashed, b, s.in_transit[i], b)?;
     s.in_transit[i] = sets::remove(s.in_transit[i], b);
     let p = s.processes[b];
-    s.processes[b] = match m {
-        Message::Estimate { round } => p.receive(a, round),
-        Message::Decision => p.adopt(s.n as usize, b, a, s.processes[a].estimate),
-    };
+    match m {
+        Message::Estimate { round } => s.processes[b] = p.receive(a, round),
+        Message::Decision => {
+            s.processes[b] = p.adopt(s.n as usize, b, a, s.processes[a].estimate);
+        }
+    }
     Ok(())
 }
 
 pub(crate) fn crash_in(s: &mut Bench, a: usize) -> Result<(), Refusal>
     requires { a < 16 }
-    ensures bench { s.new ≡ moved (Crash a) s.old }
+    ensures bench { s.new ≡ after_event (Crash a) s.old }
     ensures answer { result ≡ answer_of (refuses (Crash a) s.old) }
 {
     crash_check(s.crashed, a, s.t)?;
@@ -93,7 +95,7 @@ pub(crate) fn crash_in(s: &mut Bench, a: usize) -> Result<(), Refusal>
 
 pub(crate) fn suspect_in(s: &mut Bench, a: usize, b: usize) -> Result<(), Refusal>
     requires { (a < 16) × (b < 16) }
-    ensures bench { s.new ≡ moved (Suspect a b) s.old }
+    ensures bench { s.new ≡ after_event (Suspect a b) s.old }
     ensures answer { result ≡ answer_of (refuses (Suspect a b) s.old) }
 {
     let p = s.processes[a];

@@ -12,7 +12,7 @@ ghost use Rattle.bench.specs.Closings.{closing_at};
 ghost use Rattle.bench.specs.Refuse.{refuses, refusal};
 ghost use Rattle.bench.specs.RunLoop.{closing_in};
 ghost use Rattle.bench.specs.Calls.{after_record, run_of};
-ghost use Rattle.run.specs.Events.{moved, verdict_of};
+ghost use Rattle.run.specs.Events.{after_event, verdict_of};
 ghost use Rattle.run.specs.Reached.{reached_by, reached_of};
 
 use bench::{Bench, Cause, Ended, Event};
@@ -51,7 +51,7 @@ impl Reached {
 fn event_in(s: &mut Bench, e: Event) -> Result<Option<Closing>, Refusal>
     requires sound { sound_of s.old ≡ true }
     requires in_range { InRange s.old.n s.old.t e }
-    ensures bench { s.new ≡ moved e s.old }
+    ensures bench { s.new ≡ after_event e s.old }
     ensures answer { result ≡ verdict_of (refuses e s.old) (closing_at e s.old) }
 {
     match e {

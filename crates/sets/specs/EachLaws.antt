@@ -35,6 +35,11 @@ module _ {ℓ} {A : Type ℓ} where
       rw (add-one, drop-cons l n d, set_at (each n f) _ _ (f n) n (length-each n f))
       (sym (append_assoc (each n f) (f n ∷ []) (drop (suc n) l)))
 
+  -- the entry that it is at
+  pub each_next : (d : A) (n : ℕ) (f : ℕ → A) (l : List A) → n < length l
+      → get_or (each n f ++ drop n l) n d ≡ get_or l n d
+  each_next d n f l h = rw (drop-cons l n d) (get_or_at (each n f) (get_or l n d) _ d n (length-each n f))
+
   -- the same loop at its end
   pub each_done : (n : ℕ) (f : ℕ → A) (l : List A) → length l ≡ n → each n f ++ drop n l ≡ each n f
   each_done n f l h = let g : length l ≤ n = omega arith in rw (drop_of_length-le l) (append-nil (each n f))

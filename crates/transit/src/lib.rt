@@ -7,6 +7,7 @@ ghost use Rattle.bench.specs.State.{transit_at};
 ghost use Rattle.bench.specs.Sound.{sound_of};
 ghost use Rattle.bench.specs.TransitList.{message_bytes, transit_bytes, list_of, listed_in};
 ghost use Rattle.bench.specs.TransitLaws.{sender_bytes, round_bytes};
+ghost use Rattle.transit.specs.Counts.{round_count};
 ghost use Rattle.transit.specs.Pages.{Room, Writes};
 
 use bench::Bench;
@@ -87,24 +88,20 @@ impl Page<'_> {
 // How many messages of a round there are: one for each member of a sender's set.
 fn round_messages(bench: &Bench, round: u8) -> usize
     requires { (sound_of bench.now ≡ true) × (round ≤ 16) }
-    ensures { (result * 3 ≡ length (round_bytes bench.now.in_transit bench.now.n round)) × (result ≤ 256) }
+    ensures { result ≡ round_count bench.now round }
 {
-    let mut count = 0;
-    for from in 0..bench.n {
-        count += size(receivers(bench, round, from)) as usize;
-    }
-    count
+    (0..bench.n)
+        .map(|from| size(receivers(bench, round, from)) as usize)
+        .sum()
 }
 
 fn all_messages(bench: &Bench) -> usize
     requires { sound_of bench.now ≡ true }
     ensures { (result * 3 ≡ length (transit_bytes bench.now)) × (result ≤ 4352) }
 {
-    let mut count = 0;
-    for round in 0..bench.t + 2 {
-        count += round_messages(bench, round);
-    }
-    count
+    (0..bench.t + 2)
+        .map(|round| round_messages(bench, round))
+        .sum()
 }
 
 // Lists the messages in transit in `out`, by round, sender and receiver, and gives how many there are. Nothing is

@@ -7,6 +7,10 @@ use Rattle.bench.specs.Calls.{answer_of}
 use Rattle.checks.specs.Checks.{takes_started}
 use Rattle.checks.proofs.close_check.Goals as goal
 
+pub returns-then-member : goal.returns-then-member
+unfolding answer_of check select same
+returns-then-member c = grind (arith, common_steps)
+
 pub returns-then-takes_part-p : goal.returns-then-takes_part-p
 unfolding answer_of check select same ◌and◌
 returns-then-takes_part-p c = grind (arith, common_steps)

@@ -1,8 +1,13 @@
+-- By the first test that fails.
 use Rattle.std.proofs.Common.{arith}
 use Rattle.std.proofs.lemmas.Grind.{common_steps}
-use Rattle.sets.specs.Truth.{◌and◌, same, select, check}
+use Rattle.sets.specs.Truth.{same, ◌and◌, select, check}
 use Rattle.bench.specs.Calls.{answer_of}
 use Rattle.checks.proofs.suspect_check.Goals as goal
+
+pub returns-then-member : goal.returns-then-member
+unfolding answer_of check select same ◌and◌
+returns-then-member c = grind (arith, common_steps)
 
 pub returns-then-member-2 : goal.returns-then-member-2
 unfolding answer_of check select same ◌and◌

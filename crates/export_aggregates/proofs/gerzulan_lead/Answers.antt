@@ -2,7 +2,7 @@
 use Rattle.std.specs.Prelude.{ℕ}
 use Rattle.std.proofs.Common.{rules, ◌∙◌}
 use Rattle.aggregates.specs.declared.Leader.{Leader}
-use Rattle.export_aggregates.specs.WordLaws.{mapped}
+use Rattle.refusal.specs.HostLaws.{mapped}
 use Rattle.export_aggregates.proofs.gerzulan_lead.Goals as goal
 
 pub returns : goal.returns
@@ -12,4 +12,4 @@ returns c =
     let m = mapped portions c.lead-lead.result c.map.result c.args.value.now (search rules) in
     let k = mapped process c.lead-lead.result c.map-2.result c.args.process.now (search rules) in
     rw (← c.lead-lead.ensures)
-    (c.put-2.ensures.0 ∙ k.0, c.put-2.ensures.1 ∙ k.1, c.put.ensures.1 ∙ m.1)
+    (c.store-2.ensures.number ∙ k.0, c.store-2.ensures.stored ∙ k.1, c.store.ensures.stored ∙ m.1)

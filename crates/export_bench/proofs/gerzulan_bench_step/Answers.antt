@@ -1,9 +1,13 @@
--- What `host_stepped` makes of a run of the record in the bytes is the call for it (answers/specs/ReachedLaws).
-use Rattle.std.proofs.Common.{ap, ◌∙◌}
-use Rattle.answers.specs.declared.HostStepped.{HostStepped}
-use Rattle.answers.specs.declared.Reached.{Reached}
-use Rattle.answers.specs.Numbers.{host_stepped_of}
-use Rattle.answers.specs.ReachedLaws.{step_number, step_bench, step_counters, step_closing}
+-- What is made of a run of the record in the bytes is the call for it (answers/specs/ReachedLaws).
+use Rattle.std.proofs.Common.{ap, ◌∙◌, Result, is_ok}
+use Rattle.std.specs.Prelude.{⊤}
+use Rattle.refusal.specs.declared.Refusal.{Refusal}
+use Rattle.refusal.specs.Host.{answer_number}
+use Rattle.process.specs.Steps.{closing_number}
+use Rattle.bench.specs.Calls.{tallied}
+use Rattle.one_record.specs.OneRecord.{answer_to, crash_byte}
+use Rattle.run.specs.declared.Reached.{Reached}
+use Rattle.answers.specs.ReachedLaws.{step_answer, step_bench, step_closing, step_counters}
 use Rattle.export_bench.proofs.gerzulan_bench_step.Goals as goal
 
 pub returns : goal.returns
@@ -11,10 +15,10 @@ returns c =
     let b = c.args.b.now in
     let l = c.args.rec.now in
     let t = c.args.tally.now in
-    let r = rw c.record_in.ensures at c.run_in-r.ensures in
-    let h = c.host_stepped-h.ensures ∙ ap (λ (x : Reached). host_stepped_of x l t) r.0 in (
-      ap (λ (x : HostStepped). x.number) h ∙ step_number b l t,
-      r.1 ∙ step_bench b l,
-      ap (λ (x : HostStepped). x.counters) h ∙ step_counters b l t,
-      ap (λ (x : HostStepped). x.closing) h ∙ step_closing b l t,
+    let r = rw c.record_in.ensures at c.run_in-r.ensures.reached in
+    let a = c.answer_to-answer.ensures ∙ ap (λ (x : Reached). answer_to x.accepted x.cause) r in (
+      c.answer_number.ensures ∙ ap answer_number (a ∙ step_answer b l),
+      rw c.record_in.ensures at c.run_in-r.ensures.bench ∙ step_bench b l,
+      c.tally_after.ensures ∙ ap (λ (x : Result ⊤ Refusal). tallied (is_ok x) (crash_byte l) t) a ∙ step_counters b l t,
+      c.closing_number.ensures ∙ ap (λ (x : Reached). closing_number x.closing) r ∙ ap closing_number (step_closing b l),
     )

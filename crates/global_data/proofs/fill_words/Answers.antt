@@ -1,8 +1,7 @@
 -- `fill_words` fills: it takes the row's words where the row has what the marks lack. The loop's invariant: what is
 -- taken and what is left give together what all of these give.
-use mathlib.Core.Path.{◌≡◌, refl, sym, ◌∙◌}
+use mathlib.Core.Path.{refl, sym, ◌∙◌}
 use Prim.Native.Nat.{◌<◌}
-use native.Mathlib.Omega.{arith}
 use lib.ListN.{length-set}
 use borrow.Author.Rules.{rules}
 use Rattle.sets.specs.MembersLaws.{Turn, left_turn, left_none}

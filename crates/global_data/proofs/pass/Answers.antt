@@ -1,8 +1,6 @@
 -- `pass` fills and compares: the invariant is that of the laws of a pass, `Passing`, for any rows that the calls of
 -- `row` give.
-use mathlib.Core.Path.{◌≡◌, refl, sym, ◌∙◌}
-use Prim.Native.Nat.{◌<◌}
-use native.Mathlib.Omega.{arith}
+use mathlib.Core.Path.{sym, ◌∙◌}
 use borrow.Author.Rules.{rules}
 use Rattle.sets.specs.MembersLaws.{Turn, left_turn, left_none}
 use Rattle.sets.specs.TruthLaws.{and_on_r, and_off_r}

@@ -1,5 +1,5 @@
 -- Each arm hands on what the event's function answers.
-use Rattle.std.proofs.Common.{None, Some, arith, rules}
+use Rattle.std.proofs.Common.{None, Some}
 use Rattle.std.proofs.lemmas.Result.{err_from_is_err_and}
 use Rattle.bench.specs.Closings.{closing_at}
 use Rattle.run.specs.Events.{closed_of}

@@ -7,7 +7,7 @@ use Rattle.bench.specs.declared.Ended.{Ended}
 use Rattle.bench.specs.RunLoop.{ended_of}
 use Rattle.bench.proofs.RunLaws.{run_damaged}
 use Rattle.run.specs.Reached.{reached_of}
-use Rattle.run.specs.Turns.{running_new, ends_empty, ends_spent, ends_refused, goes_on, chunk, later}
+use Rattle.run.specs.Turns.{running_new, ends_empty, ends_spent, ends_refused, goes_on, next_record, later}
 use Rattle.run.proofs.run_in.Goals.{In-Some, In-Err}
 use Rattle.run.proofs.run_in.Goals as goal
 
@@ -33,7 +33,7 @@ next : (c : In-Some)
     × (chunks_rest c.next.new.self ≡ drop 8 (chunks_rest c.loop-bytes.bytes-iterator))
 next c =
     let s = c.in-Some.ensures.steps in
-    chunk _ _ _ s.1.0 (rw c.loop-bytes.invariant.0 at s.1.1)
+    next_record _ _ _ s.1.0 (rw c.loop-bytes.invariant.0 at s.1.1)
 
 some-left : (c : In-Some) → length (chunks_rest c.loop-bytes.bytes-iterator) ≢ 0
 some-left c = let s = c.in-Some.ensures.steps in λ e. omega (arith, s.1.2)

@@ -1,43 +1,37 @@
--- `round_messages` sums the messages of each sender. The loop's invariant: three times the count is the length of
--- the bytes of the senders below `from`.
-use Rattle.std.proofs.Common.{◌≡◌, ℕ, ◌+◌, ◌*◌, ◌^◌, ◌<◌, ◌≤◌, refl, ap, ◌∙◌, arith}
-use Rattle.sets.specs.Laws.{size_most}
-use Rattle.sets.specs.Lists.{joined}
+-- `round_messages` sums the sizes of the sets of a round.
+use Rattle.std.proofs.Common.{ℕ, ◌≤◌, ◌∙◌, arith, rules}
+use Rattle.std.proofs.lemmas.Iterator.{YieldsList-from_range, YieldsList-from_map, serves_from_Range}
+use Rattle.std.proofs.lemmas.Iterator.Consumers.{sum_from_yields_List, fits_from_yields_list}
+use Rattle.sets.specs.Set.{size_of}
+use Rattle.bench.specs.declared.Bench.{Bench}
 use Rattle.bench.specs.State.{transit_at}
-use Rattle.bench.proofs.SoundLaws.{sound_on}
-use Rattle.bench.specs.TransitLaws.{sender_bytes, round_bytes}
-use Rattle.bench.proofs.TransitLaws.{sum_more, size_length}
-use Rattle.transit.proofs.round_messages.Goals.{After-size}
+use Rattle.transit.specs.Counts.{round_count}
+use Rattle.transit.proofs.CountLaws.{few, round_most, sum_range}
 use Rattle.transit.proofs.round_messages.Goals as goal
 
-pub loop-from-init : goal.loop-from-init
-unfolding joined
-loop-from-init c = (omega arith, refl)
+-- the messages of a sender
+abbrev messages : Bench → ℕ → ℕ → ℕ
+messages b r a = size_of (transit_at b a r)
 
-pub receivers-requires : goal.receivers-requires
-receivers-requires c = (c.requires.1, omega (arith, (sound_on c.args.bench.now c.requires.0).few))
+pub sum-requires-clause-can : goal.sum-requires-clause-can
+sum-requires-clause-can c =
+    let h : c.args.bench.now.n ≤ 16 = few c.args.bench.now c.requires.0 in
+    (tt, serves_from_Range (λ x q k. search rules) (λ x l u. search rules))
 
--- the set of this turn is within n
-low : (c : After-size) → c.receivers.result < 2 ^ c.args.bench.now.n
-unfolding transit_at
-low c = rw c.receivers.ensures ((sound_on c.args.bench.now c.requires.0).transit (c.loop-from.from * 17 + c.args.round))
-
-pub loop-from-preserved : goal.loop-from-preserved
-unfolding sender_bytes transit_at
-loop-from-preserved c =
+pub sum-requires-clause-fits : goal.sum-requires-clause-fits
+unfolding round_count
+sum-requires-clause-fits c =
     let b = c.args.bench.now in
-    let l = c.loop-from in
-    let few : c.size.result ≤ 16 =
-    omega (arith, c.size.ensures, size_most b.n _ (low c), (sound_on b c.requires.0).few) in (
-      omega arith,
-      sum_more (sender_bytes b.in_transit b.n c.args.round) l.count c.size.result l.from l.invariant.1
-          (ap (λ (x : ℕ). x * 3) c.size.ensures
-          ∙ rw c.receivers.ensures (size_length _ c.args.round l.from b.n (rw (← c.receivers.ensures) (low c)))),
-    )
+    let r = c.args.round in
+    fits_from_yields_list _ _
+    (YieldsList-from_map _ (messages b r) (YieldsList-from_range 0 b.n b.n (cc) (omega arith)) c.map.ensures.closure (λ x r q k. search rules))
+    (omega (arith, sum_range (messages b r) b.n, round_most b c.requires.0 r))
 
 pub returns : goal.returns
-unfolding round_bytes
+unfolding round_count
 returns c =
-    let l = c.loop-from in
-    let e : l.from ≡ c.args.bench.now.n = omega arith in
-    (rw e at l.invariant.1, omega (arith, (sound_on c.args.bench.now c.requires.0).few))
+    let b = c.args.bench.now in
+    let r = c.args.round in
+    sum_from_yields_List _ c.sum.result c.sum.ensures.ran
+    (YieldsList-from_map _ (messages b r) (YieldsList-from_range 0 b.n b.n (cc) (omega arith)) c.map.ensures.closure (λ x r q k. search rules))
+    ∙ sum_range (messages b r) b.n

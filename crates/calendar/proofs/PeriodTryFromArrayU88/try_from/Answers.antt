@@ -8,7 +8,9 @@ use Rattle.calendar.specs.declared.Kind.{Kind}
 use Rattle.calendar.specs.declared.Kind.TheVariants.{Term, Closed}
 use Rattle.calendar.specs.Calendar.{kind_number, pair_of, period_at}
 use Rattle.calendar.proofs.PassLaws.{formed_parts, formed_mk}
-use Rattle.calendar.proofs.PeriodTryFromArrayU88.try_from.Goals.{then-not-contains-via-then-not-contains, then-not-contains-via-else-not-contains+then-last-first, then-not-contains-via-else-not-contains+else-last-first+then-rest-ne0}
+use Rattle.calendar.proofs.PeriodTryFromArrayU88.try_from.Goals.{then-not-contains-via-then-not-contains}
+use Rattle.calendar.proofs.PeriodTryFromArrayU88.try_from.Goals.{then-not-contains-via-else-not-contains+then-last-first}
+use Rattle.calendar.proofs.PeriodTryFromArrayU88.try_from.Goals.{then-not-contains-via-else-not-contains+else-last-first+then-rest-ne0}
 use Rattle.calendar.proofs.PeriodTryFromArrayU88.try_from.Goals as goal
 
 kind_one : (k : Kind) → one_to 2 (kind_number k) ≡ true
@@ -19,8 +21,9 @@ pub returns-in_err-kind : goal.returns-in_err-kind
 unfolding period_at
 returns-in_err-kind c =
     let p = err_from_is_err_and c.from_residual.result c.from_residual.ensures.1 in
+    let other = c.in_err-kind.ensures.1 in
     rw (p.1, p.2)
-    (c.in_err-kind.ensures.0, off_by _ (λ e. clash _ (formed_parts (period_at c.args.bytes 0) e).kinds c.in_err-kind.ensures.1))
+    (c.in_err-kind.ensures.0, off_by _ (λ e. clash _ (formed_parts (period_at c.args.bytes 0) e).kinds other))
 
 pub returns-then-not-contains : goal.returns-then-not-contains
 unfolding period_at pair_of
@@ -31,9 +34,11 @@ returns-then-not-contains c = (
       let low = f.low in
       let high = f.high in
       elim c.then-not-contains.branch [
-        | then-not-contains-via-then-not-contains w ↦ grind (arith, common_steps, w.if-not-contains.ensures.value, c.new.ensures)
+        | then-not-contains-via-then-not-contains w ↦
+            grind (arith, common_steps, w.if-not-contains.ensures.value, c.new.ensures)
         | then-not-contains-via-else-not-contains+then-last-first w ↦ omega (arith, f.order)
-        | then-not-contains-via-else-not-contains+else-last-first+then-rest-ne0 w ↦ w.if-rest-ne0.true (omega (arith, f.nought))
+        | then-not-contains-via-else-not-contains+else-last-first+then-rest-ne0 w ↦
+            w.if-rest-ne0.true (omega (arith, f.nought))
       ]),
 )
 

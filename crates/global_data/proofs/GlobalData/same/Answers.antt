@@ -1,10 +1,8 @@
 -- `GlobalData::same` compares present marks, then words. The loop's invariant: ok says whether the words of the
 -- present entries below k are the same.
 use mathlib.Core.Path.{◌≡◌, refl, sym, ◌∙◌}
-use Prim.Native.Nat.{◌-◌}
 use native.Mathlib.Omega.{arith}
 use native.Mathlib.Numerals.{add-one}
-use borrow.Author.Rules.{rules}
 use Rattle.sets.specs.Lists.{every}
 use Rattle.sets.specs.Truth.{◌and◌}
 use Rattle.global_data.proofs.Laws.{marks, same_unmarked, same_words_marked}

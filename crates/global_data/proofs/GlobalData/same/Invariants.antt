@@ -1,6 +1,6 @@
 use mathlib.Core.Path.{◌≡◌}
 use Rattle.sets.specs.Lists.{every}
-use Rattle.global_data.proofs.Laws.{marks, words_same}
+use Rattle.global_data.proofs.Laws.{words_same}
 use Rattle.global_data.proofs.GlobalData.same.Given as goal
 
 abbrev pub invariant-loop-k : goal.invariant-loop-k

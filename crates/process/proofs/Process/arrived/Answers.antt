@@ -4,4 +4,4 @@ use Rattle.process.proofs.Process.arrived.Goals as goal
 
 pub returns : goal.returns
 unfolding arrived_of
-returns c = c.insert.ensures
+returns c = rw (← c.from.ensures) c.insert.ensures

@@ -5,6 +5,6 @@ use Rattle.process.proofs.Process.close_by.Goals as goal
 pub returns : goal.returns
 returns g c rows h =
     close_made _ _ _ rows _ _ _ _ _ _ c.next-next.ensures
-    (rw c.remove.ensures at (c.pass-passed.ensures rows h))
+    (rw c.remove-others.ensures at (c.pass-passed.ensures rows h))
     c.requires.n_bound.0
-    c.finish-c.ensures
+    c.finish-closed.ensures

@@ -1,8 +1,8 @@
--- `Process::finish` is the definition: `ending` gives the closing, the next round opens where it says so, and what is
--- set in place is what changes.
+-- `Process::finish` is the definition: `ending` gives the closing, and what comes of it is said by `open_round` or
+-- `decide`.
 use mathlib.Core.Path.{◌≡◌, sym, ap, ◌∙◌}
 use Rattle.sets.specs.TruthLaws.{select_on, select_off}
-use Rattle.process.specs.Steps.{open_round_of, opens_next, decide_of}
+use Rattle.process.specs.Steps.{opens_next}
 use Rattle.process.specs.ClosingLaws.{closing_by, finish_of}
 use Rattle.process.proofs.Process.finish.Goals.{After-opens_next}
 use Rattle.process.proofs.Process.finish.Goals as goal
@@ -13,13 +13,15 @@ test : (c : After-opens_next) → let x = c.args in
 test c = ap opens_next (sym c.ending-closing.ensures) ∙ sym c.opens_next.ensures
 
 pub returns-then-opens_next : goal.returns-then-opens_next
-unfolding finish_of open_round_of
+unfolding finish_of
 returns-then-opens_next c = (
-  rw c.remove-others.ensures (sym (select_on _ _ _ (test (goal.at.returns-then-opens_next c).After-opens_next ∙ c.if-opens_next.true))),
+  c.open_round-process.ensures ∙ sym (select_on _ _ _ (test (goal.at.returns-then-opens_next c).After-opens_next ∙ c.if-opens_next.true)),
   c.ending-closing.ensures,
 )
 
 pub returns-else-opens_next : goal.returns-else-opens_next
-unfolding finish_of decide_of
-returns-else-opens_next c =
-    (rw c.owed-others.ensures (sym (select_off _ _ _ (test (goal.at.returns-else-opens_next c).After-opens_next ∙ c.if-opens_next.false))), c.ending-closing.ensures)
+unfolding finish_of
+returns-else-opens_next c = (
+  rw (← c.owed.ensures) (c.decide-process.ensures ∙ sym (select_off _ _ _ (test (goal.at.returns-else-opens_next c).After-opens_next ∙ c.if-opens_next.false))),
+  c.ending-closing.ensures,
+)

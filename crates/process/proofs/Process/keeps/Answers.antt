@@ -5,4 +5,4 @@ use Rattle.process.proofs.Process.keeps.Goals as goal
 
 pub returns : goal.returns
 unfolding keeps ◌and◌ ◌or◌ less same
-returns c = rw (c.has_decided.ensures, c.member.ensures)
+returns c = rw (c.has_decided.ensures, c.member.ensures, c.from-at.ensures)

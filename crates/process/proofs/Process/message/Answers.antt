@@ -10,4 +10,4 @@ returns-then-has_decided c = rw (sym c.has_decided.ensures ∙ c.if-has_decided.
 
 pub returns-else-has_decided : goal.returns-else-has_decided
 unfolding message_of select
-returns-else-has_decided c = rw (sym c.has_decided.ensures ∙ c.if-has_decided.false)
+returns-else-has_decided c = rw (sym c.has_decided.ensures ∙ c.if-has_decided.false) c.from.ensures

@@ -19,6 +19,6 @@ returns c =
       | then-keeps w ↦ rw (← v, w.if-keeps.true) w.at-is
       | else-keeps w ↦ rw (← v, w.if-keeps.false) w.at-is
     ] in
-    rw c.words_with-received.ensures
+    rw c.words_with-self.ensures
     (receive_words a.y a.r c.if-keeps.at a.self (search rules) (search rules)
     (search rules) at)

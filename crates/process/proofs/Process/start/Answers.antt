@@ -6,4 +6,4 @@ use Rattle.process.proofs.Process.start.Goals as goal
 pub returns : goal.returns
 unfolding start_of
 returns c =
-    rw (c.open_round.ensures, c.one-g.ensures, c.difference-current.ensures, c.all-all.ensures)
+    rw (c.open_round.ensures, c.one-self.ensures, c.difference.ensures, c.all-all.ensures)

@@ -1,11 +1,11 @@
 -- By the check's answer: refused, nothing is stored; accepted, what is stored is the effect.
-use Rattle.std.proofs.Common.{◌≡◌, ◌∙◌, ap, sym, arith, ◌+◌, ◌*◌}
+use Rattle.std.proofs.Common.{◌≡◌, ◌∙◌, ap, ◌+◌, ◌*◌}
 use Rattle.std.proofs.lemmas.Result.{err_from_is_err_and}
 use Rattle.bench.specs.State.{process_at}
 use Rattle.bench.specs.Refuse.{number_of}
 use Rattle.bench.proofs.RecordLaws.{MessageIn}
 use Rattle.run.specs.Turns.{stays, goes, same_answer, refuses_arrive, number_low, effect_receive, effect_adopt}
-use Rattle.run.proofs.events.arrive_in.Goals.{After-set_index-i, in-Estimate, in-Decision}
+use Rattle.run.proofs.events.arrive_in.Goals.{After-set_index-i}
 use Rattle.run.proofs.events.arrive_in.Goals as goal
 
 -- where the set of that message lies
@@ -27,15 +27,26 @@ pub receive-requires-clause-le_r : goal.receive-requires-clause-le_r
 unfolding MessageIn
 receive-requires-clause-le_r c = rw c.in-Estimate.is at c.requires.message
 
-pub returns-clause-bench : goal.returns-clause-bench
+pub returns-in-Estimate-clause-bench : goal.returns-in-Estimate-clause-bench
 unfolding process_at
-returns-clause-bench c =
-    let j = at (goal.at.returns-clause-bench c).After-set_index-i in
+returns-in-Estimate-clause-bench c =
+    let j = at (goal.at.returns-in-Estimate-clause-bench c).After-set_index-i in
     goes _ _ _ (refuses_arrive _ _ _ _ _ j) c.in_ok-message_check.ensures _
-    (elim c.match-m.branch [
-      | in-Estimate w ↦ effect_receive _ _ _ _ _ _ _ _ w.in-Estimate.is j (w.s-is ∙ w.receive.ensures) c.remove.ensures
-      | in-Decision w ↦ effect_adopt _ _ _ _ _ _ _ w.in-Decision.is j (w.s-is ∙ w.adopt.ensures) c.remove.ensures
-    ])
+    (effect_receive _ _ _ _ _ _ _ _ c.in-Estimate.is j c.receive.ensures c.remove.ensures)
 
-pub returns-clause-answer : goal.returns-clause-answer
-returns-clause-answer c = same_answer _ _ _ (refuses_arrive _ _ _ _ _ (at (goal.at.returns-clause-answer c).After-set_index-i)) _ c.in_ok-message_check.ensures
+pub returns-in-Estimate-clause-answer : goal.returns-in-Estimate-clause-answer
+returns-in-Estimate-clause-answer c =
+    same_answer _ _ _ (refuses_arrive _ _ _ _ _ (at (goal.at.returns-in-Estimate-clause-answer c).After-set_index-i)) _
+    c.in_ok-message_check.ensures
+
+pub returns-in-Decision-clause-bench : goal.returns-in-Decision-clause-bench
+unfolding process_at
+returns-in-Decision-clause-bench c =
+    let j = at (goal.at.returns-in-Decision-clause-bench c).After-set_index-i in
+    goes _ _ _ (refuses_arrive _ _ _ _ _ j) c.in_ok-message_check.ensures _
+    (effect_adopt _ _ _ _ _ _ _ c.in-Decision.is j c.adopt.ensures c.remove.ensures)
+
+pub returns-in-Decision-clause-answer : goal.returns-in-Decision-clause-answer
+returns-in-Decision-clause-answer c =
+    same_answer _ _ _ (refuses_arrive _ _ _ _ _ (at (goal.at.returns-in-Decision-clause-answer c).After-set_index-i)) _
+    c.in_ok-message_check.ensures

@@ -1,5 +1,4 @@
 -- By the check's answer: refused, nothing is stored; accepted, what is stored is the effect.
-use Rattle.std.proofs.Common.{arith}
 use Rattle.std.proofs.lemmas.Result.{err_from_is_err_and}
 use Rattle.run.specs.Turns.{stays, goes, same_answer, refuses_crash, effect_crash}
 use Rattle.run.proofs.events.crash_in.Goals as goal

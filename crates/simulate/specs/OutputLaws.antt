@@ -16,13 +16,13 @@ use Rattle.simulate.specs.LinesLaws.{Answered}
 
 -- the first 8 bytes, or all, where there are fewer
 module _ (first rest : List ℕ) (h : length first ≤ 8) (end : length first < 8 → rest ≡ []) where
-  opening_part : take 8 (first ++ rest) ≡ first
-  opening_part =
+  front : take 8 (first ++ rest) ≡ first
+  front =
       ⊎_elim (λ b. take-append-le 8 first rest b ∙ take_all 8 first h)
       (λ b. rw (end b, append-nil first) (take_all 8 first h)) (le-or 8 (length first))
 
-  after_opening : drop 8 (first ++ rest) ≡ rest
-  after_opening =
+  behind : drop 8 (first ++ rest) ≡ rest
+  behind =
       ⊎_elim (λ b. drop_at first rest 8 (omega arith))
       (λ b. rw (end b, append-nil first) (drop_all 8 first h)) (le-or 8 (length first))
 
@@ -43,7 +43,7 @@ module _ (first : List ℕ) (h : length first ≤ 8) where
   unfolding output_of written_after
   output_refused None mid held written r read end a w = tt
   output_refused (Some xs) None held written r read end a w = absurd read
-  output_refused (Some xs) (Some rest) held written r read end a w = λ few. rw (read, opening_part first rest h end, a) w
+  output_refused (Some xs) (Some rest) held written r read end a w = λ few. rw (read, front first rest h end, a) w
 
   pub output_opened : (before mid after held lined written : Option (List ℕ)) (b s : Bench) → Consumes before mid first
       → (length first < 8 → IsAtEnd mid) → opening_of first ≡ Ok b
@@ -55,5 +55,5 @@ module _ (first : List ℕ) (h : length first ≤ 8) where
   output_opened (Some xs) (Some rest) after held lined written b s read end a d w = λ few.
       let e : rest ≡ d.bytes =
       given_all after rest d.bytes d.read d.all (omega (arith, ap length read, length-append first rest)) in
-      rw (read, opening_part first rest h end, after_opening first rest h end, a, e, ← d.state)
+      rw (read, front first rest h end, behind first rest h end, a, e, ← d.state)
       (Appends-trans held lined written _ _ d.lines w)

@@ -1,3 +1,4 @@
+-- `answer_all` carries the bench and the lines over the parts that it reads; a part that is not whole is the last.
 use Rattle.std.proofs.Common.{arith}
 use Rattle.std.proofs.KnownBytes.{Appends-kept}
 use Rattle.simulate.specs.LinesLaws.{carried_none, carried_next, carried_last}

@@ -1,3 +1,4 @@
+-- One line more for each turn.
 use Rattle.std.proofs.Common.{suc, ◌≡◌, ◌+◌, ◌-◌, arith}
 use Rattle.std.proofs.KnownBytes.{Appends-nil, Appends-trans}
 use Rattle.sets.specs.Lists.{joined}

@@ -1,3 +1,4 @@
+-- `write_lines` writes the lines of the records, run by run: a turn is `Taken`, what a run gives from record i on.
 use Rattle.std.proofs.Common.{rules, append-nil, ◌≡◌, refl, ◌+◌, arith}
 use Rattle.std.proofs.KnownBytes.{Appends-nil, Appends-trans}
 use Rattle.sets.specs.Lists.{joined}

@@ -1,3 +1,4 @@
+-- The lines of the first i records are written, and `bench` is the bench after them.
 use Rattle.std.proofs.Common.{◌≡◌, ◌-◌, ◌≤◌}
 use Rattle.std.specs.Io.KnownBytes.{Appends}
 use Rattle.sets.specs.Lists.{joined}

@@ -1,4 +1,5 @@
-use Rattle.std.proofs.Common.{Bool, true, refl, arith, add-one, rules, ◌≡◌, Bool, true}
+-- The line before its entries, the entries one by one, and its end are written one after another.
+use Rattle.std.proofs.Common.{Bool, true, refl, arith, add-one, rules, ◌≡◌}
 use Rattle.std.proofs.Output.{has_written_append, writes_in_calls_nil}
 use Rattle.sets.specs.Lists.{joined}
 use Rattle.text.specs.TextLaws.{process_printed}

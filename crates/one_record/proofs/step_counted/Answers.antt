@@ -5,4 +5,4 @@ use Rattle.one_record.proofs.step_counted.Goals as goal
 
 pub returns : goal.returns
 unfolding counted_of
-returns c = rw (c.tally_after-counters.ensures, c.step_bytes-stepped.ensures, tally_step _ _ _)
+returns c = rw (c.tally_after.ensures, c.step_bytes-stepped.ensures, tally_step _ _ _)

@@ -63,14 +63,15 @@ pub struct Bench {
     pub in_transit: [u16; 272],
 }
 
-// What carrying gives; the bench is as it was in any case.
+// What carrying gives; the bench is as it was in any case, and so stands beside the answer.
 #[derive(Clone, Copy)]
 pub struct Carried {
     pub answer: Result<(), Refusal>,
     pub bench: Bench,
 }
 
-// What the call for one record gives. A closing is that of an accepted close, and none of any other record.
+// What the call for one record gives, refused or not. A closing is that of an accepted close, and none of any other
+// record.
 #[derive(Clone, Copy)]
 pub struct Stepped {
     pub answer: Result<(), Refusal>,
@@ -87,7 +88,7 @@ pub struct Counters {
     pub crashes: u32,
 }
 
-// Why a run ended.
+// Why a run ended: one of three, and only one of them is a refusal.
 #[derive(Clone, Copy)]
 pub enum Cause {
     Empty,

@@ -90,7 +90,8 @@ impl Period {
     }
 }
 
-// How many sites take part, the process of each site and the site of each process; 0 for none.
+// How many sites take part, the process of each site and the site of each process; 0 for none. Numbers and two arrays,
+// as a host has them (include/gerzulan.h).
 #[repr(C)]
 #[derive(Clone, Copy)]
 pub struct Numbering {

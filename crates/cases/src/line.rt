@@ -22,7 +22,8 @@ impl Line {
         }
     }
 
-    // Takes one more character. There are at most 128 numbers, each below 240; one after them is the first again.
+    // Takes one more character. There are at most 128 numbers, each below 240; one after them is the first again, so
+    // that any text is a table.
     pub fn feed(&mut self, c: u8) {
         let at = self.count % 128;
         if c.is_ascii_digit() {

@@ -1,5 +1,5 @@
-// The calls for a host in C or Rust (include/gerzulan.h) on a bench that it lends: each works on it where it lies. What a
-// call answers is a number, by the definitions of `refusal` and `answers`.
+// The calls for a host in C or Rust (include/gerzulan.h) on a bench that it lends: each works on it where it lies.
+// What a call answers is a number, by the definitions of `refusal` and `answers`.
 #![tactic(auto)]
 
 ghost use Rattle.std.specs.Prelude.{◌≡◌};

@@ -18,7 +18,8 @@ pub struct Value {
 // An entry: document 01's blank, or a value.
 pub type Entry = Option<Value>;
 
-// The word of a present entry has its portions in the low half and its diet portions in the high half.
+// The word of a present entry has its portions in the low half and its diet portions in the high half. Marks and words
+// stand side by side, as a host has them (include/gerzulan.h).
 #[repr(C)]
 #[derive(Clone, Copy)]
 pub struct GlobalData {

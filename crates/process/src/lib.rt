@@ -16,7 +16,8 @@ ghost use Rattle.sets.specs.Set.{insert_of};
 
 use global_data::{GlobalData, pass};
 
-// Document 01's terminal. Sets are bits, process i at bit i from 0.
+// Document 01's terminal. Sets are bits, process i at bit i from 0. Its fields are numbers, and no bool, enum or
+// Option, since they lie in a host's memory (include/gerzulan.h), where any bits may stand.
 #[repr(C)]
 #[derive(Clone, Copy)]
 pub struct Process {
@@ -73,8 +74,8 @@ fn word_with(m: u16, put: bool, y: usize) -> u16
     if put { sets::insert(m, y) } else { m }
 }
 
-// The sets, with y in the one at `at`; at 16 there is none. Each is written, since a store at an index that is known
-// late makes the next read wait.
+// The sets, with y in the one at `at`; at 16 there is none, and no branch either. Each is written, since a store at an
+// index that is known late makes the next read wait.
 fn words_with(mut words: [u16; 16], at: u16, y: usize) -> [u16; 16]
     requires { y < 16 }
     ensures { result ≡ words_with words at y }
@@ -85,7 +86,8 @@ fn words_with(mut words: [u16; 16], at: u16, y: usize) -> [u16; 16]
     words
 }
 
-// The steps. `n` is how many processes there are, `a` the number of this one, from 0.
+// The steps. `n` is how many processes there are, `a` the number of this one, from 0. These are numbers with a clause
+// each, and no types: a bench and a node have them as numbers, and would make such a type anew for each step.
 impl Process {
     // It has not started.
     pub fn idle() -> Process
@@ -294,7 +296,8 @@ impl Process {
         }
     }
 
-    // The number of the message it sends: 0, the decision, once it has decided, else its round.
+    // The number of the message it sends: 0, the decision, once it has decided, else its round. By that number the
+    // bench keeps to whom it is on its way.
     pub fn message(self) -> usize
         ensures { result ≡ message_of self }
     {

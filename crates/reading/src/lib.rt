@@ -10,7 +10,8 @@ use std::io::Read;
 
 // Fills `buf` until it is full or the input ends, and gives how many bytes it put at the start. A read may give
 // fewer bytes than there is room for before the input ends, so only one that gives none is taken for the end.
-// After an error any bytes stand in `buf`, and the reader has lost those that it gave before.
+// After an error any bytes stand in `buf`, and the reader has lost those that it gave before. A turn goes on by what a
+// read gave, which no iterator knows.
 pub fn read_full<R: Read>(reader: &mut R, buf: &mut [u8]) -> io::Result<usize>
     ensures bound { ReadsAtMost result buf.new }
     ensures bytes { IfOk result (λ n. Consumes (R.remaining reader.old) (R.remaining reader.new) (take n buf.new)) }

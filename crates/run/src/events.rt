@@ -27,7 +27,7 @@ fn set_index(a: usize, number: usize) -> usize
     a * 17 + number
 }
 
-// The message's number in transit.
+// The message's number in transit: its place among the sets of a process, which lie so in a host's memory.
 fn number(m: Message) -> usize
     ensures { result ≡ number_of m }
 {

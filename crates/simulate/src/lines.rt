@@ -26,7 +26,8 @@ fn write_accepted<W: Write>(out: &mut W, first: u64, accepted: u32) -> io::Resul
 }
 
 // Writes the lines of the records of `chunk`, numbered from `first`, and gives the bench after them.
-// Each run takes records until one is refused, and the next run begins after it.
+// Each run takes records until one is refused, and the next run begins after it: a turn goes on by what a run
+// took, which no iterator knows.
 pub fn write_lines<W: Write>(
     out: &mut W,
     bench: Bench,

@@ -1,3 +1,4 @@
 pub mod Theorem
 pub mod Histories
 pub mod Carrying
+pub mod Refusals

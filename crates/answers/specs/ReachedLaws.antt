@@ -3,6 +3,7 @@
 use Rattle.std.specs.Prelude.{◌≡◌, List, ℕ, is_ok, Result, ⊤}
 use Rattle.std.proofs.Common.{◌∙◌, ap}
 use Rattle.refusal.specs.declared.Refusal.{Refusal}
+use Rattle.refusal.specs.Host.{answer_number}
 use Rattle.bench.specs.declared.Bench.{Bench}
 use Rattle.bench.specs.declared.Counters.{Counters}
 use Rattle.bench.specs.declared.Ended.{Ended}
@@ -18,6 +19,9 @@ module _ (s : Bench) (l : List ℕ) where
   pub step_answer : answer_to end.accepted end.cause ≡ (step_of s l).answer
   unfolding stepped_by
   step_answer = ap (λ (x : Stepped). x.answer) (step_run s l)
+
+  pub step_number : answer_number (answer_to end.accepted end.cause) ≡ answer_number (step_of s l).answer
+  step_number = ap answer_number step_answer
 
   pub step_bench : end.bench ≡ (step_of s l).bench
   unfolding stepped_by

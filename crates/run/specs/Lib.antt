@@ -1,3 +1,4 @@
 pub mod Events
 pub mod Reached
 pub mod Turns
+pub mod PlaceLaws

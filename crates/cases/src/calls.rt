@@ -8,7 +8,7 @@ use decision::global_data;
 use global_data::GlobalData;
 use one_record::step_bytes;
 use process::{Closing, Process};
-use refusal::Refusal;
+use refusal::{Refusal, answer_number};
 use run::run_bytes;
 use std::fmt::Display;
 use std::io;
@@ -20,10 +20,7 @@ fn say(rt: &impl Print, x: impl Display + Drop) -> io::Result<()> {
 
 // 0, or the refusal's number.
 fn say_answer<T: Drop>(rt: &impl Print, answer: Result<T, Refusal>) -> io::Result<()> {
-    match answer {
-        Ok(_) => say(rt, 0),
-        Err(refusal) => say(rt, refusal.number()),
-    }
+    say(rt, answer_number(&answer))
 }
 
 // The same, and after 0 what the call gives.
@@ -51,7 +48,7 @@ fn say_cause(rt: &impl Print, cause: Cause) -> io::Result<()> {
     }
 }
 
-// No bench is open: every byte is 0, and each call finds that damaged.
+// No bench is open: every byte is 0, and each call finds that damaged. `Bench` itself makes no such bench for a host.
 pub fn closed() -> Bench {
     Bench {
         n: 0,

@@ -1,5 +1,5 @@
 // Checks 6 to 9 of each event, on the parts of the bench that it looks at: the first that fails refuses it. Each begins
-// with check 6 in its own words, as a function of that one test is no shorter where it is called.
+// with check 6 in its own words: with a function of it and `?`, three of the five proofs do not close.
 #![tactic(auto)]
 
 ghost use Rattle.std.specs.Prelude.{◌≡◌, ◌<◌, ◌≤◌};

@@ -137,6 +137,24 @@ module _ (n m : ℕ) (rows : ℕ → GlobalData) (old : GlobalData) where
           compares = rw (es, w.compares) (rw next_seen at (sym (all_same_in n m rows old seen t)));
         }
 
+    -- none of the next d processes is a member: the pass comes past them
+    pub passing_to : (d : ℕ) → seen + d ≤ 16 → ((i : ℕ) → seen ≤ i → i < seen + d → has m i ≡ false)
+        → Passing n m rows old (seen + d) (m / 2 ^ (seen + d)) g ok
+    passing_to zero l h =
+        let e : seen + 0 ≡ seen = omega arith in
+        record { few = w.few; within = l; others = refl; fills = rw e w.fills; compares = rw e w.compares }
+    passing_to (suc d) l h =
+        let e : seen + suc d ≡ suc (seen + d) = omega arith in
+        let f : has m (seen + d) ≡ false = h (seen + d) (omega arith) (omega arith) in
+        let v = passing_to d (omega arith) (λ i a b. h i a (omega arith)) in
+        record {
+          few = w.few;
+          within = l;
+          others = refl;
+          fills = rw e (v.fills ∙ sym (fill_from_off m rows old (seen + d) f));
+          compares = rw e (v.compares ∙ sym (all_same_off n m rows old (seen + d) f));
+        }
+
     -- g has its sixteen words
     pub passing_long : length old.values ≡ 16 → length g.values ≡ 16
     passing_long e = rw w.fills (fill_from-length m rows old seen e)

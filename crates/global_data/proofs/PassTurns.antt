@@ -1,104 +1,86 @@
--- One pass over the rows of the members of a set, the lowest first, turn by turn: the next member is filled in and
--- compared, by the definitions. What has been made and what is left give together what the definitions say of all.
-use Rattle.std.specs.Prelude.{◌≡◌, refl, ◌⊎◌, Bool, true, false, List, ℕ, zero, suc, ◌+◌, ◌-◌, ◌<◌}
-use Rattle.std.proofs.Common.{sym, ap, ◌∙◌, inl, inr, arith}
+-- One pass over the rows of the members of a set, the lowest first, turn by turn: the processes between a member and the
+-- next are none, so that the pass has come past them (`Passing`).
+use Rattle.std.specs.Prelude.{◌≡◌, refl, ◌⊎◌, Bool, true, false, List, ℕ, ◌+◌, ◌-◌, ◌/◌, ◌%◌, ◌^◌, ◌<◌, ◌≤◌}
+use Rattle.std.proofs.Common.{sym, ◌∙◌, inl, inr, ⊎_elim, arith}
 use Rattle.sets.specs.Laws.{has_empty, has_remove}
 use Rattle.sets.specs.MembersLaws.{Turn}
 use Rattle.sets.specs.Set.{has, remove_of}
 use Rattle.sets.specs.Truth.{◌and◌}
-use Rattle.sets.specs.TruthLaws.{Is, on, off, is, by_both, clash, and_first, and_second, and_mk, and_on_r, and_off_r}
-use Rattle.sets.specs.TruthLaws.{same_refl, same_off, eq-or}
+use Rattle.sets.specs.TruthLaws.{clash, and_on_r, and_off_r, same_refl, same_off, same_on, eq-or, le-or}
 use Rattle.global_data.specs.declared.GlobalData.{GlobalData}
 use Rattle.global_data.specs.GlobalData.{fill_of, fill_from, same_to, all_same}
-use Rattle.global_data.proofs.Laws.{fill_from_on, fill_from_off, all_same_on, all_same_mk}
-
--- where no member is below p, nothing is filled in below p
-fill_low : (m : ℕ) (rows : ℕ → GlobalData) (g : GlobalData) (p : ℕ) → ((i : ℕ) → i < p → has m i ≡ false)
-    → fill_from p m rows g ≡ g
-unfolding fill_from
-fill_low m rows g zero f = refl
-fill_low m rows g (suc p) f =
-    fill_from_off m rows g p (f p (omega arith)) ∙ fill_low m rows g p (λ i l. f i (omega arith))
+use Rattle.global_data.proofs.PassLaws.{Passing, passing_new, passing_to, passing_more}
 
 -- ---- a member and the others
-module _ (m k : ℕ) (rows : ℕ → GlobalData) (t : has m k ≡ true) where
+module _ (m k : ℕ) where
   other : (i : ℕ) → (i ≡ k → ⊥) → has (remove_of m k) i ≡ has m i
   other i d = has_remove m k i ∙ and_on_r _ _ (rw (same_off i k d) refl)
 
   gone : has (remove_of m k) k ≡ false
   gone = has_remove m k k ∙ and_off_r _ _ (rw (same_refl k) refl)
 
-  -- where it is the lowest, it is filled in first
-  module _ (g : GlobalData) (least : (i : ℕ) → i < k → has m i ≡ false) where
-    fill_first : (d p : ℕ) → p ≡ suc (k + d)
-        → fill_from p m rows g ≡ fill_from p (remove_of m k) rows (fill_of g (rows k))
-    fill_first zero p e =
-        let z : p ≡ suc k = omega arith in
-        rw z (fill_from_on m rows g k t ∙ ap (λ (f : GlobalData). fill_of f (rows k)) (fill_low m rows g k least)
-        ∙ sym (fill_from_off (remove_of m k) rows (fill_of g (rows k)) k gone
-        ∙ fill_low (remove_of m k) rows (fill_of g (rows k)) k (λ i l. other i (omega arith) ∙ least i l)))
-    fill_first (suc d) p e =
-        let z : p ≡ suc (suc (k + d)) = omega arith in
-        rw z (go (suc (k + d)) (omega arith) (fill_first d (suc (k + d)) refl) (is (has m (suc (k + d)))))
-      where
-        go : (q : ℕ) → (q ≡ k → ⊥) → fill_from q m rows g ≡ fill_from q (remove_of m k) rows (fill_of g (rows k))
-            → Is (has m q) → fill_from (suc q) m rows g ≡ fill_from (suc q) (remove_of m k) rows (fill_of g (rows k))
-        go q u ih (on s) =
-            fill_from_on m rows g q s ∙ ap (λ (f : GlobalData). fill_of f (rows q)) ih
-            ∙ sym (fill_from_on (remove_of m k) rows (fill_of g (rows k)) q (other q u ∙ s))
-        go q u ih (off s) =
-            fill_from_off m rows g q s ∙ ih
-            ∙ sym (fill_from_off (remove_of m k) rows (fill_of g (rows k)) q (other q u ∙ s))
-
-  -- all rows are the same as g where its row and those of the others are
-  same_first : (n : ℕ) (g : GlobalData) → k < 16
-      → all_same 16 n m rows g ≡ (same_to n (rows k) g and all_same 16 n (remove_of m k) rows g)
-  same_first n g l =
-      by_both _ _
-      (λ e.
-      and_mk _ _ (all_same_on 16 n m rows g e k l t)
-      (all_same_mk 16 n (remove_of m k) rows g
-      (λ q b s. all_same_on 16 n m rows g e q b (and_first _ _ (sym (has_remove m k q) ∙ s)))))
-      (λ e. all_same_mk 16 n m rows g (λ q b s. go e q b s (eq-or q k)))
-    where
-      go : (same_to n (rows k) g and all_same 16 n (remove_of m k) rows g) ≡ true → (q : ℕ) → q < 16 → has m q ≡ true
-          → (q ≡ k) ⊎ (q ≡ k → ⊥) → same_to n (rows q) g ≡ true
-      go e q b s (inl u) = rw u (and_first _ _ e)
-      go e q b s (inr u) = all_same_on 16 n (remove_of m k) rows g (and_second _ _ e) q b (other q u ∙ s)
-
--- ---- the pass over the rows of all: g and ok are what it has made of them so far, and those of m are left
-pub record Passing (n all : ℕ) (rows : ℕ → GlobalData) (old : GlobalData) (m : ℕ) (g : GlobalData) (ok : Bool) :
+-- ---- the pass over the rows of the members of all, of which those of m are left: none of m is below `seen`, and from
+-- there on it has all that are members
+pub record Turns (n all : ℕ) (rows : ℕ → GlobalData) (old : GlobalData) (m : ℕ) (g : GlobalData) (ok : Bool) :
     Type 0 where
-  pub fills : fill_from 16 m rows g ≡ fill_from 16 all rows old
-  pub compares : (ok and all_same 16 n m rows old) ≡ all_same 16 n all rows old
+  pub seen : ℕ
+  pub left : ℕ
+  pub behind : (i : ℕ) → i < seen → has m i ≡ false
+  pub ahead : (i : ℕ) → seen ≤ i → has m i ≡ has all i
+  pub passing : Passing n all rows old seen left g ok
 
 module _ (n all : ℕ) (rows : ℕ → GlobalData) (old : GlobalData) where
-  pub pass_new : Passing n all rows old all old true
-  unfolding ◌and◌
-  pass_new = record { fills = refl; compares = refl }
+  pub pass_new : all < 2 ^ 16 → Turns n all rows old all old true
+  pass_new few =
+      record {
+        seen = 0;
+        left = all;
+        behind = λ i b. absurd (omega (arith, b));
+        ahead = λ i b. refl;
+        passing = passing_new n all rows old all few refl;
+      }
 
   -- a turn: f and `still` are what comes of the row of k
   pub pass_turn : {m k : ℕ} {rest : List ℕ} {g : GlobalData} {ok : Bool} → Turn rest m k
-      → Passing n all rows old m g ok → (f : GlobalData) (still : Bool) → f ≡ fill_of g (rows k)
-      → still ≡ (same_to n (rows k) old and ok) → Passing n all rows old (remove_of m k) f still
-  unfolding ◌and◌
+      → Turns n all rows old m g ok → (f : GlobalData) (still : Bool) → f ≡ fill_of g (rows k)
+      → still ≡ (same_to n (rows k) old and ok) → Turns n all rows old (remove_of m k) f still
+  unfolding has
   pass_turn {m} {k} {rest} {g} {ok} t w f still ef es =
       record {
-        fills = rw ef (sym (fill_first m k rows t.member g t.least (15 - k) 16 (omega (arith, t.low))) ∙ w.fills);
-        compares =
-            rw es (swap (same_to n (rows k) old) ok (all_same 16 n (remove_of m k) rows old))
-            ∙ ap (λ (b : Bool). ok and b) (sym (same_first m k rows t.member n old t.low)) ∙ w.compares;
+        seen = k + 1;
+        left = all / 2 ^ k / 2;
+        behind = λ i b. below i b (eq-or i k);
+        ahead = λ i b. other m k i (λ e. omega (arith, e, b)) ∙ w.ahead i (omega (arith, b, from));
+        passing =
+            passing_more n all rows old k (all / 2 ^ k) g ok came (λ z. omega (arith, z, odd)) odd f still ef es;
       }
     where
-      swap : (a b c : Bool) → ((a and b) and c) ≡ (b and (a and c))
-      swap true b c = refl
-      swap false true c = refl
-      swap false false c = refl
+      from : w.seen ≤ k
+      from = ⊎_elim (λ (l : w.seen ≤ k). l) (λ (l : k < w.seen). clash (has m k) t.member (w.behind k l)) (le-or w.seen k)
 
-  -- g keeps its sixteen words
-  pub pass_done : {m : ℕ} {g : GlobalData} {ok : Bool} → m ≡ 0 → Passing n all rows old m g ok
+      upto : w.seen + (k - w.seen) ≡ k
+      upto = omega (arith, from)
+
+      came : Passing n all rows old k (all / 2 ^ k) g ok
+      came =
+          rw upto at
+          (passing_to n all rows old w.seen w.left g ok w.passing (k - w.seen) (omega (arith, from, t.low))
+          (λ i a b. sym (w.ahead i a) ∙ t.least i (omega (arith, b, from))))
+
+      odd : all / 2 ^ k % 2 ≡ 1
+      odd = same_on _ 1 (sym (w.ahead k from) ∙ t.member)
+
+      below : (i : ℕ) → i < k + 1 → (i ≡ k) ⊎ (i ≡ k → ⊥) → has (remove_of m k) i ≡ false
+      below i b (inl e) = rw e (gone m k)
+      below i b (inr d) = other m k i d ∙ t.least i (omega (arith, b, d))
+
+  -- none is left: all are seen
+  pub pass_done : {m : ℕ} {g : GlobalData} {ok : Bool} → m ≡ 0 → Turns n all rows old m g ok
       → (g ≡ fill_from 16 all rows old) × (ok ≡ all_same 16 n all rows old)
-  pass_done {m} {g} {ok} z w = (
-    sym (fill_low m rows g 16 (λ i l. rw z (has_empty i))) ∙ w.fills,
-    sym (and_on_r ok _ (all_same_mk 16 n m rows old (λ q b s. clash (has m q) s (rw z (has_empty q))))) ∙ w.compares,
-  )
+  pass_done {m} {g} {ok} z w =
+      let l = w.passing.within in
+      let e : w.seen + (16 - w.seen) ≡ 16 = omega (arith, l) in
+      let v =
+      passing_to n all rows old w.seen w.left g ok w.passing (16 - w.seen) (omega (arith, l))
+      (λ i a b. sym (w.ahead i a) ∙ rw z (has_empty i)) in
+      (rw e at v.fills, rw e at v.compares)

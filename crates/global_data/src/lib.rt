@@ -2,7 +2,9 @@
 // bit is clear, and 0 is a value.
 #![tactic(auto)]
 
-ghost use Rattle.std.specs.Prelude.{◌≡◌, true, ℕ, ◌<◌, ◌≤◌, length};
+ghost use Rattle.std.specs.Prelude.{◌≡◌, true, ℕ, ◌<◌, ◌≤◌, length, get_or};
+ghost use Rattle.sets.specs.Lists.{each};
+ghost use Rattle.sets.specs.Set.{has};
 ghost use Rattle.sets.specs.Truth.{same, select};
 ghost use Rattle.global_data.specs.GlobalData.{portions_of, diet_of, value_in, diet_fits};
 ghost use Rattle.global_data.specs.GlobalData.{nothing_of, one_of, fill_of, same_to, fill_from, all_same};
@@ -64,7 +66,11 @@ impl From<u32> for Value {
 pub fn diet_fits(entry: Entry) -> bool
     ensures { result ≡ diet_fits entry }
 {
-    entry.is_none_or(|v| v.diet <= v.portions)
+    // a `match`: `is_none_or` tests the mark of an entry twice
+    match entry {
+        None => true,
+        Some(v) => v.diet <= v.portions,
+    }
 }
 
 impl GlobalData {
@@ -117,6 +123,16 @@ fn same_where(asked: bool, x: u32, y: u32) -> bool
     if asked { x == y } else { true }
 }
 
+// The words at the members of m are taken from others.
+fn take_words(values: &mut [u32; 16], m: u16, words: [u32; 16])
+    requires { length values.old ≡ 16 }
+    ensures { values.new ≡ each 16 (λ k. select (has m k) (get_or words k 0) (get_or values.old k 0)) }
+{
+    for k in sets::members(m) {
+        values[k] = words[k];
+    }
+}
+
 // Each absent entry takes that of the row: the words are lent, and where the row has what the marks lack, its word is
 // taken. Gives the marks then.
 pub fn fill_words(values: &mut [u32; 16], marks: u16, row: GlobalData) -> u16
@@ -124,8 +140,10 @@ pub fn fill_words(values: &mut [u32; 16], marks: u16, row: GlobalData) -> u16
     ensures { fill_of (record { present = marks; values = values.old }) row
         ≡ record { present = result; values = values.new } }
 {
-    for k in sets::members(sets::difference(row.present, marks)) {
-        values[k] = row.values[k];
+    let lacking = sets::difference(row.present, marks);
+    // a row that has nothing more is not copied
+    if lacking != 0 {
+        take_words(values, lacking, row.values);
     }
     sets::union(marks, row.present)
 }

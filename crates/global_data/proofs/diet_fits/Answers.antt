@@ -1,15 +1,12 @@
 -- Of a value the test is the definition's, the other way round; an absent entry passes.
-use borrow.Author.Rules.{rules}
-use Rattle.std.specs.Prelude.{◌≡◌, Bool, true, None, Some, MatchOption, leb}
-use Rattle.std.proofs.Common.{◌∙◌}
 use Rattle.sets.specs.Tests.{not_above}
-use Rattle.global_data.specs.GlobalData.{Entry, diet_fits}
+use Rattle.global_data.specs.GlobalData.{diet_fits}
 use Rattle.global_data.proofs.diet_fits.Goals as goal
 
-fits : (e : Entry) (r : Bool) → MatchOption e (r ≡ true) (λ v. r ≡ leb v.diet v.portions) → r ≡ diet_fits e
+pub returns-in-None : goal.returns-in-None
 unfolding diet_fits
-fits None r h = h
-fits (Some v) r h = h ∙ not_above _ _
+returns-in-None c = rw c.in-None.is
 
-pub returns : goal.returns
-returns c = fits c.args.entry c.is_none_or.result (search rules)
+pub returns-in-Some : goal.returns-in-Some
+unfolding diet_fits
+returns-in-Some c = rw c.in-Some.is (not_above _ _)

@@ -1,58 +1,25 @@
--- `fill_words` fills: it takes the row's words where the row has what the marks lack. The loop's invariant: what is
--- taken and what is left give together what all of these give.
-use mathlib.Core.Path.{refl, sym, ◌∙◌}
-use Prim.Native.Nat.{◌<◌}
-use lib.ListN.{length-set}
-use borrow.Author.Rules.{rules}
-use Rattle.sets.specs.MembersLaws.{Turn, left_turn, left_none}
+-- `fill_words` fills: it takes the row's words where the row has what the marks lack.
+use Rattle.std.specs.Prelude.{◌≡◌, ℕ}
+use mathlib.Core.Path.{sym, ap, ◌∙◌}
 use Rattle.sets.specs.Set.{difference_of}
-use Rattle.global_data.proofs.Laws.{fill_words, words_more, words_none}
-use Rattle.global_data.proofs.fill_words.Goals.{In-Some}
+use Rattle.global_data.proofs.Laws.{fill_words, words_from, words_none}
+use Rattle.global_data.proofs.fill_words.Goals.{then-lacking-ne0, else-lacking-ne0}
 use Rattle.global_data.proofs.fill_words.Goals as goal
-
-pub loop-k-init : goal.loop-k-init
-loop-k-init c = (
-  difference_of c.args.row.present c.args.marks,
-  record {
-    few = rw (← c.difference.ensures) (search rules);
-    list = c.into_iter-k-iterator.ensures.into_iter_gives ∙ rw (← c.difference.ensures) c.members-k-items.ensures;
-  },
-  c.told-values,
-  refl,
-)
-
-turn : (c : In-Some) → Turn c.next.new.self c.loop-k.invariant.0 c.in-Some.k
-turn c = left_turn c.loop-k.invariant.1 c.in-Some.ensures.steps
-
-low : (c : In-Some) → c.in-Some.k < 16
-low c = (turn c).low
-
-pub bounds-row-k : goal.bounds-row-k
-bounds-row-k c = low (goal.at.bounds-row-k c).In-Some
-
-pub bounds-values-k : goal.bounds-values-k
-bounds-values-k c = low (goal.at.bounds-values-k c).In-Some
-
-pub offset_bounds-values-k : goal.offset_bounds-values-k
-offset_bounds-values-k c = let h = low (goal.at.offset_bounds-values-k c).In-Some in search rules
-
-pub offset_bounds-row-k : goal.offset_bounds-row-k
-offset_bounds-row-k c = let h = low (goal.at.offset_bounds-row-k c).In-Some in search rules
-
-pub loop-k-preserved : goal.loop-k-preserved
-loop-k-preserved c =
-    let i = c.loop-k.invariant in
-    let t = turn (goal.at.loop-k-preserved c).In-Some in (
-      _,
-      t.others,
-      length-set _ _ _ ∙ i.2,
-      words_more i.0 c.args.row.values c.loop-k.values _ i.2 t.low t.member ∙ i.3,
-    )
 
 pub returns : goal.returns
 returns c =
-    let i = c.loop-k.invariant in
-    let v =
-    sym (words_none c.args.row.values c.loop-k.values i.2)
-    ∙ (rw (left_none i.1 c.in-None.ensures.steps.0) at i.3) in
-    rw (c.union.ensures, v) (sym (fill_words _ c.args.row))
+    let row = c.args.row in
+    let old = c.args.values.now in
+    let m : ℕ = difference_of row.present c.args.marks in
+    let d : c.difference-lacking.result ≡ m = c.difference-lacking.ensures in
+    elim c.if-lacking-ne0.branch [
+      | then-lacking-ne0 w ↦
+          let v : c.if-lacking-ne0.values ≡ words_from m row.values old =
+          w.values-is ∙ w.take_words.ensures ∙ ap (λ (k : ℕ). words_from k row.values old) d in
+          rw (c.union.ensures, v) (sym (fill_words _ row))
+      | else-lacking-ne0 w ↦
+          let v : c.if-lacking-ne0.values ≡ words_from m row.values old =
+          w.values-is ∙ sym (words_none row.values old c.told-values)
+          ∙ ap (λ (k : ℕ). words_from k row.values old) (sym w.if-lacking-ne0.false ∙ d) in
+          rw (c.union.ensures, v) (sym (fill_words _ row))
+    ]

@@ -1,4 +1,4 @@
--- `pass` fills and compares: the invariant is that of the laws of a pass, `Passing`, for any rows that the calls of
+-- `pass` fills and compares: the invariant is that of the laws of a pass, `Turns`, for any rows that the calls of
 -- `row` give.
 use mathlib.Core.Path.{sym, ◌∙◌}
 use borrow.Author.Rules.{rules}
@@ -13,7 +13,7 @@ loop-y-init g c = (
   c.args.members,
   record { few = search rules; list = c.into_iter-y-iterator.ensures.into_iter_gives ∙ c.members-y-items.ensures },
   search rules,
-  λ rows h. pass_new c.args.n c.args.members rows c.args.old,
+  λ rows h. pass_new c.args.n c.args.members rows c.args.old (search rules),
 )
 
 turn : (g : _) (c : In-Some g) → Turn c.next.new.self c.loop-y.invariant.0 c.in-Some.y

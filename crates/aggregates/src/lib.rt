@@ -53,7 +53,12 @@ impl Entries<'_> {
     fn diets_fit(self) -> bool
         ensures { result ≡ diets_fit (length self.entry.words.now) (entry_at self.entry.words.now self.entry.marks) }
     {
-        (0..self.words.len()).all(|i| diet_fits(self.entry(i)))
+        // no entry ends the loop: `all` has a jump an entry more, and total takes up to a half longer
+        let mut fits = true;
+        for i in 0..self.words.len() {
+            fits = diet_fits(self.entry(i)) & fits;
+        }
+        fits
     }
 
     fn are_served(self) -> bool

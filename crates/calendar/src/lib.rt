@@ -9,7 +9,7 @@ ghost use Rattle.calendar.specs.PassLaws.{DecodesKind, DecodesRecord, record_of,
 ghost use Rattle.calendar.specs.PassLaws.{some_day, open_in};
 
 use refusal::Refusal;
-use sets::{all, difference, union};
+use sets::{all, difference, empty, union};
 
 // What a record says of its site.
 #[derive(Clone, Copy)]
@@ -45,12 +45,13 @@ struct Period {
     last: u16,
 }
 
-impl TryFrom<[u8; 8]> for Period {
+// A record is read where it lies: by value it is loaded whole and taken apart, and takes a fifth longer.
+impl TryFrom<&[u8; 8]> for Period {
     type Error = Refusal;
 
-    ghost try_from_gives = { λ bytes r. DecodesRecord (period_at bytes 0) r };
+    ghost try_from_gives = { λ bytes r. DecodesRecord (period_at bytes.now 0) r };
 
-    fn try_from(bytes: [u8; 8]) -> Result<Self, Refusal> {
+    fn try_from(bytes: &[u8; 8]) -> Result<Self, Refusal> {
         let site = bytes[0];
         let kind = Kind::try_from(bytes[1])?;
         let first = u16::from_le_bytes([bytes[2], bytes[3]]);
@@ -108,19 +109,16 @@ struct Marks {
 }
 
 impl Marks {
-    fn with(self, kind: Kind, days: u16) -> Self
-        ensures { result ≡ with_days self kind days }
+    // Marks some days of a kind. Both sets are written, with no jump: records have their kinds in any order.
+    fn mark(&mut self, kind: Kind, days: u16)
+        ensures { self.new ≡ with_days self.old kind days }
     {
-        match kind {
-            Kind::Term => Marks {
-                term: union(self.term, days),
-                closed: self.closed,
-            },
-            Kind::Closed => Marks {
-                term: self.term,
-                closed: union(self.closed, days),
-            },
-        }
+        let term = match kind {
+            Kind::Term => days,
+            Kind::Closed => empty(),
+        };
+        self.term = union(self.term, term);
+        self.closed = union(self.closed, difference(days, term));
     }
 
     // A day of term that is not closed.
@@ -141,9 +139,8 @@ fn mark_days(calendar: &[u8], monday: u32) -> Result<[Marks; 16], Refusal>
     }
     let mut sites = [Marks { term: 0, closed: 0 }; 16];
     for record in records {
-        let period = Period::try_from(*record)?;
-        let marks = &mut sites[period.site as usize - 1];
-        *marks = marks.with(period.kind, period.weekdays(monday));
+        let period = Period::try_from(record)?;
+        sites[period.site as usize - 1].mark(period.kind, period.weekdays(monday));
     }
     Ok(sites)
 }

@@ -29,8 +29,8 @@ returns-in_err-period c =
     let e = rw (c.as_chunks.ensures.front, record_in xs j l) at c.in_err-period.ensures.1 in
     rw (p.1, p.2) (c.in_err-period.ensures.0, and_off_r _ _ (every_off _ _ j l e))
 
-pub overflow_sub-marks : goal.overflow_sub-marks
-overflow_sub-marks c =
+pub overflow_sub-period : goal.overflow_sub-period
+overflow_sub-period c =
     let h = c.in_ok-period.ensures in rw (ap (λ p. p.site) h.0) (formed_parts _ h.1).low
 
 pub returns : goal.returns
@@ -63,4 +63,4 @@ loop-record-preserved c =
     one_mk 16 _ (omega (arith, ap (λ p. p.site) d.0, f.low)) (omega (arith, ap (λ p. p.site) d.0, f.high)) in
     let m =
     mark_more xs a.monday j c.weekdays.result c.in_ok-period.period l.sites d.0 s c.weekdays.ensures l.invariant.1 in
-    (rw add-one (every-suc j _ l.invariant.0 d.1), rw add-one (rw (← c.with.ensures) at m))
+    (rw add-one (every-suc j _ l.invariant.0 d.1), rw add-one (rw (← c.mark.ensures) at m))

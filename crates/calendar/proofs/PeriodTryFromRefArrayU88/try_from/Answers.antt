@@ -8,10 +8,10 @@ use Rattle.calendar.specs.declared.Kind.{Kind}
 use Rattle.calendar.specs.declared.Kind.TheVariants.{Term, Closed}
 use Rattle.calendar.specs.Calendar.{kind_number, pair_of, period_at}
 use Rattle.calendar.proofs.PassLaws.{formed_parts, formed_mk}
-use Rattle.calendar.proofs.PeriodTryFromArrayU88.try_from.Goals.{then-not-contains-via-then-not-contains}
-use Rattle.calendar.proofs.PeriodTryFromArrayU88.try_from.Goals.{then-not-contains-via-else-not-contains+then-last-first}
-use Rattle.calendar.proofs.PeriodTryFromArrayU88.try_from.Goals.{then-not-contains-via-else-not-contains+else-last-first+then-rest-ne0}
-use Rattle.calendar.proofs.PeriodTryFromArrayU88.try_from.Goals as goal
+use Rattle.calendar.proofs.PeriodTryFromRefArrayU88.try_from.Goals.{then-not-contains-via-then-not-contains}
+use Rattle.calendar.proofs.PeriodTryFromRefArrayU88.try_from.Goals.{then-not-contains-via-else-not-contains+then-last-first}
+use Rattle.calendar.proofs.PeriodTryFromRefArrayU88.try_from.Goals.{then-not-contains-via-else-not-contains+else-last-first+then-rest-ne0}
+use Rattle.calendar.proofs.PeriodTryFromRefArrayU88.try_from.Goals as goal
 
 kind_one : (k : Kind) → one_to 2 (kind_number k) ≡ true
 kind_one Term = one_mk 2 1 (omega arith) (omega arith)
@@ -23,14 +23,14 @@ returns-in_err-kind c =
     let p = err_from_is_err_and c.from_residual.result c.from_residual.ensures.1 in
     let other = c.in_err-kind.ensures.1 in
     rw (p.1, p.2)
-    (c.in_err-kind.ensures.0, off_by _ (λ e. clash _ (formed_parts (period_at c.args.bytes 0) e).kinds other))
+    (c.in_err-kind.ensures.0, off_by _ (λ e. clash _ (formed_parts (period_at c.args.bytes.now 0) e).kinds other))
 
 pub returns-then-not-contains : goal.returns-then-not-contains
 unfolding period_at pair_of
 returns-then-not-contains c = (
   refl,
   off_by _ (λ e.
-      let f = formed_parts (period_at c.args.bytes 0) e in
+      let f = formed_parts (period_at c.args.bytes.now 0) e in
       let low = f.low in
       let high = f.high in
       elim c.then-not-contains.branch [
@@ -45,7 +45,7 @@ returns-then-not-contains c = (
 pub returns : goal.returns
 unfolding period_at pair_of
 returns c =
-    let b = c.args.bytes in
+    let b = c.args.bytes.now in
     let rest : (period_at b 0).rest ≡ 0 = sym c.from_le_bytes-rest.ensures ∙ c.if-rest-ne0.false in (
       λ i. record {
         site = get_or b 0 0;

@@ -11,6 +11,7 @@ use Rattle.refusal.specs.declared.Refusal.TheVariants.{Size, Damaged}
 use Rattle.refusal.specs.Numbers.{refused}
 use Rattle.process.specs.Steps.{has_decided}
 use Rattle.bench.specs.declared.Bench.{Bench}
+use Rattle.bench.specs.declared.Opened.{Opened}
 use Rattle.bench.specs.declared.Cause.{Cause}
 use Rattle.bench.specs.declared.Cause.TheVariants.{Empty, Spent, Refused}
 use Rattle.bench.specs.declared.Stepped.{Stepped}
@@ -31,6 +32,12 @@ answer_of k = select (same k 0) (Ok tt) (Err (refused k))
 -- ---- open: the opened bench, or refusal 1
 unfoldable pub open_of : ℕ → ℕ → Result Bench Refusal
 open_of n t = select (opens n t) (Ok (opened_of n t)) (Err Size)
+
+-- the same, with a bench in any case: refused, it is all zero
+unfoldable pub open_or_zero_of : ℕ → ℕ → Opened
+open_or_zero_of n t =
+    select (opens n t) (record { answer = Ok tt; bench = opened_of n t })
+    (record { answer = Err Size; bench = opened_of 0 0 })
 
 -- ---- what is accepted, as events: of one record the event that it is decoded to, or nothing
 unfoldable pub event_in : Result Event Refusal → List Event

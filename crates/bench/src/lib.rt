@@ -63,6 +63,13 @@ pub struct Bench {
     pub in_transit: [u16; 272],
 }
 
+// What opening gives to who takes a bench in any case: refused, the bench is all zero.
+#[derive(Clone, Copy)]
+pub struct Opened {
+    pub answer: Result<(), Refusal>,
+    pub bench: Bench,
+}
+
 // What carrying gives; the bench is as it was in any case, and so stands beside the answer.
 #[derive(Clone, Copy)]
 pub struct Carried {

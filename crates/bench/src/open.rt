@@ -2,9 +2,9 @@
 ghost use Rattle.std.specs.Prelude.{◌≡◌};
 ghost use Rattle.bench.specs.State.{opened_of};
 ghost use Rattle.bench.specs.Sound.{opens};
-ghost use Rattle.bench.specs.Calls.{open_of};
+ghost use Rattle.bench.specs.Calls.{open_of, open_or_zero_of};
 
-use crate::Bench;
+use crate::{Bench, Opened};
 use global_data::GlobalData;
 use process::Process;
 use refusal::Refusal;
@@ -54,6 +54,23 @@ impl Bench {
             Ok(Bench::fresh(n, t))
         } else {
             Err(Refusal::Size)
+        }
+    }
+
+    // The same, with a bench in any case: refused, the all-zero bench comes back.
+    #[tactic(auto, unfolding(crate::specs::Calls::open_or_zero_of, sets::specs::Truth::select))]
+    pub fn open_or_zero(n: u8, t: u8) -> Opened
+        ensures { result ≡ open_or_zero_of n t }
+    {
+        if !sizes_open(n, t) {
+            return Opened {
+                answer: Err(Refusal::Size),
+                bench: Bench::fresh(0, 0),
+            };
+        }
+        Opened {
+            answer: Ok(()),
+            bench: Bench::fresh(n, t),
         }
     }
 }

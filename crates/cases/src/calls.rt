@@ -5,9 +5,8 @@ use bench::{Bench, Cause};
 use calendar::{Numbering, week};
 use carry::carry;
 use decision::global_data;
-use global_data::GlobalData;
 use one_record::step_bytes;
-use process::{Closing, Process};
+use process::Closing;
 use refusal::{Refusal, answer_number};
 use run::run_bytes;
 use std::fmt::Display;
@@ -48,22 +47,11 @@ fn say_cause(rt: &impl Print, cause: Cause) -> io::Result<()> {
     }
 }
 
-// No bench is open: every byte is 0, and each call finds that damaged. `Bench` itself makes no such bench for a host.
-pub fn closed() -> Bench {
-    Bench {
-        n: 0,
-        t: 0,
-        crashed: 0,
-        processes: [Process::idle(); 16],
-        sent: [GlobalData::nothing(); 256],
-        in_transit: [0; 272],
-    }
-}
-
+// Refused, the all-zero bench comes back, and each call finds that damaged.
 fn open(rt: &impl Print, bench: &mut Bench, n: u8, t: u8) -> io::Result<()> {
-    let opened = Bench::open(n, t);
-    *bench = opened.unwrap_or(closed());
-    say_answer(rt, opened)
+    let opened = Bench::open_or_zero(n, t);
+    *bench = opened.bench;
+    say_answer(rt, opened.answer)
 }
 
 // A budget and bytes: the call for one record and run are both given the bench, and the one that run gives is kept.

@@ -5,15 +5,17 @@
 mod calls;
 mod line;
 
-use crate::calls::{answer, closed};
+use crate::calls::answer;
 use crate::line::Line;
+use bench::Bench;
 use reading::read_full;
 use std::io;
 use std::io::Write;
 
 // Each call is made on the bench that the lines before it left.
 fn lines(rt: &impl Print, text: &[u8]) -> io::Result<()> {
-    let mut bench = closed();
+    // no bench is open yet
+    let mut bench = Bench::open_or_zero(0, 0).bench;
     let mut line = Line::new();
     for &c in text {
         line.feed(c);

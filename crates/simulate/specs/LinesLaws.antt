@@ -357,3 +357,31 @@ in_parts_lem b first (p ∷ q ∷ ps) h =
     )
     (sym (append_assoc (lines_of b first p) (lines_of (after_all b p) (first + length p / 8) rest)
     (processes_text (after_all (after_all b p) rest))))
+
+-- ---- the bench alone, after whole records of any number: the next one has the number `first`
+pub record CarriedTo (b s : Bench) (first : ℕ) : Type 0 where
+  pub bytes : List ℕ
+  pub whole : length bytes + 8 ≡ 8 * first
+  pub state : s ≡ after_all b bytes
+
+pub carried_to_none : (b : Bench) → CarriedTo b b 1
+unfolding after_all records_in steps
+carried_to_none b = record { bytes = []; whole = refl; state = refl }
+
+module _ {b s : Bench} {first : ℕ} (c : CarriedTo b s first) (part : List ℕ) (s' : Bench)
+    (e : s' ≡ after_all s part) where
+  carried_to_state : s' ≡ after_all b (c.bytes ++ part)
+  carried_to_state =
+      e ∙ ap (λ (s : Bench). after_all s part) c.state
+      ∙ sym (after-append b first (first - 1) c.bytes part (omega (arith, c.whole)))
+
+  pub carried_reached : Reached b s'
+  carried_reached = record { bytes = c.bytes ++ part; state = carried_to_state }
+
+  pub carried_to_next : length part ≡ 8192 → CarriedTo b s' (first + 1024)
+  carried_to_next l =
+      record {
+        bytes = c.bytes ++ part;
+        whole = omega (arith, c.whole, l, length-append c.bytes part);
+        state = carried_to_state;
+      }

@@ -72,9 +72,17 @@ pub fn simulate<R: Read, W: Write>(
     out.flush()
 }
 
-// The input's buffer is made whole before reading, and holds 1024 records; the output's has room for their lines.
+// The input's buffer is made whole before reading, and holds 1024 records; the output's has room for their lines. Where
+// there is no memory for that, each part of a line is written at once. What a failed write leaves is not tried again.
 fn main(rt: HostRuntime) -> io::Result<()> {
     let mut buffer = [0u8; 8192];
-    let mut out = BufWriter::with_capacity(rt.alloc(), 32768, rt.stdout())?;
-    simulate(&mut rt.stdin(), &mut out, &mut buffer)
+    let mut input = rt.stdin();
+    match BufWriter::with_capacity(rt.alloc(), 32768, rt.stdout()) {
+        Ok(mut out) => {
+            let result = simulate(&mut input, &mut out, &mut buffer);
+            let _unwritten = out.into_parts();
+            result
+        }
+        Err(_) => simulate(&mut input, &mut rt.stdout(), &mut buffer),
+    }
 }

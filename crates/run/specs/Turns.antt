@@ -1,6 +1,6 @@
 -- What the laws of bench say of run's code, with the parts of the bench named that it reads and stores: each event's
 -- check and effect, and a turn of the loop.
-use Rattle.std.specs.Prelude.{◌≡◌, ◌≢◌, List, true, false, ℕ, ◌+◌, ◌-◌, ◌*◌, ◌≤◌, ◌<◌, length, get_or, set, take, drop, ◌++◌, min, Result, Ok, Err, Option, Some, None}
+use Rattle.std.specs.Prelude.{◌≡◌, ◌≢◌, Bool, List, true, false, ℕ, ◌+◌, ◌-◌, ◌*◌, ◌≤◌, ◌<◌, length, get_or, set, take, drop, ◌++◌, min, Result, Ok, Err, Option, Some, None}
 use Rattle.std.proofs.Math.Path.{refl, sym, ap, subst}
 use Rattle.std.proofs.Common.{◌∙◌, ⊎_elim, take_all, drop_of_length-le}
 use Rattle.std.proofs.Math.Seq.{take-append_seam, drop-append_seam, take-length}
@@ -12,8 +12,12 @@ use Rattle.sets.specs.TruthLaws.{and_first, Is, on, off, is, clash, select_on, s
 use Rattle.global_data.specs.declared.GlobalData.{GlobalData}
 use Rattle.process.specs.declared.Process.{Process}
 use Rattle.process.specs.declared.Closing.{Closing}
+use Rattle.global_data.proofs.PassLaws.{Passing}
 use Rattle.process.specs.Laws.{decide_decided, open_round}
-use Rattle.process.specs.Steps.{has_decided, open_round_of, start_of, filled_of}
+use Rattle.process.specs.Fields.{with_estimate}
+use Rattle.process.specs.ClosingLaws.{closing_by, finish_of}
+use Rattle.process.proofs.ClosingLaws.{close_passed}
+use Rattle.process.specs.Steps.{has_decided, open_round_of, start_of, next_of, filled_of}
 use Rattle.process.specs.Steps.{decides_of, advance_of, close_of, message_of, send_of, suspect_of, receive_of, adopt_of}
 use Rattle.refusal.specs.declared.Refusal.{Refusal}
 use Rattle.refusal.specs.Numbers.{refused, refusal_number}
@@ -23,7 +27,7 @@ use Rattle.bench.specs.declared.Message.{Message}
 use Rattle.bench.specs.declared.Message.TheVariants.{Estimate, Decision}
 use Rattle.bench.specs.declared.Event.{Event}
 use Rattle.bench.specs.declared.Event.TheVariants.{Start, Send, Arrive, Close, Crash, Suspect}
-use Rattle.bench.specs.State.{bench_of, process_at, transit_at, crashed_at, with_process, with_sent, with_transit, with_crashed}
+use Rattle.bench.specs.State.{bench_of, process_at, sent_at, transit_at, crashed_at, with_process, with_sent, with_transit, with_crashed}
 use Rattle.bench.specs.Sound.{sound_of}
 use Rattle.bench.proofs.SoundLaws.{sound_on, sound_step}
 use Rattle.bench.proofs.RecordLaws.{MessageIn, InRange, decode_refused}
@@ -40,6 +44,7 @@ use Rattle.bench.specs.Calls.{answer_of, after_record, run_of}
 use Rattle.checks.specs.Checks.{start_check, message_check, close_check}
 use Rattle.checks.specs.Checks.{crash_check, suspect_check, takes_started}
 use Rattle.run.specs.Events.{after_event, verdict_of, closed_of}
+use Rattle.run.specs.PlaceLaws.{rows_in}
 
 -- ---- a verdict with a number k: accepted, the number is 0; refused, it is that of the refusal
 module _ {A : Type 0} (k : ℕ) (x : A) where
@@ -285,6 +290,24 @@ module _ (x : Closing) (s : Bench) (a : ℕ) (q : Process)
             ∙ rw (← closed.0) (sym (select_off (has_decided q) (with_process s a q) (opens_round s a q) d));
         round = λ d l m. omega (arith, (opened d).0, (opened d).1);
       }
+
+-- so the last closing of a run that had c before is that of the definitions
+pub closes_last : {x : Closing} {s : Bench} {a : ℕ} {q : Process} (c : Option Closing) → Closes x s a q
+    → last_of c (Some x) ≡ last_of c (closing_at (Close a) s)
+unfolding closing_at closed_of
+closes_last c w = ap (λ (y : Closing). last_of c (Some y)) w.closing
+
+-- the same once its pass is made: `next` is the next set, and q the process but for the estimate
+module _ (x : Closing) (s : Bench) (a r next seen : ℕ) (g : GlobalData) (alike : Bool) (q : Process)
+    (e : r ≡ (process_at s a).round - 1) (f : next ≡ next_of a (process_at s a))
+    (w : Passing s.n (remove_of next a) (rows_in s.sent r) (process_at s a).estimate seen 0 g alike)
+    (few : s.n ≤ 16) (k : (q ≡ finish_of s.n s.t a next alike (process_at s a))
+    × (x ≡ closing_by s.t next alike (process_at s a))) where
+  pub pass_closes : Closes x s a (with_estimate g q)
+  unfolding rows_at sent_at closed_of
+  pass_closes =
+      closes x s a (with_estimate g q)
+      (close_passed s.n s.t a (rows_at s (process_at s a).round) (process_at s a) next seen g alike q x f (rw e at w) few k)
 
 -- ---- one record of a sound bench, whose bytes are l
 module _ (s : Bench) (l : List ℕ) (h : sound_of s ≡ true) where

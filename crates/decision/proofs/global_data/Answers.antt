@@ -1,7 +1,7 @@
 -- `global_data` makes the checks 2, 5, 10 and 11 in this order, and writes only when all have passed.
 use Rattle.std.proofs.Common.{◌≡◌, true, false, ◌≤◌, ◌-◌, length, sym, arith}
 use Rattle.std.proofs.lemmas.Result.{err_from_is_err_and}
-use Rattle.sets.specs.Truth.{same, less, select, check}
+use Rattle.sets.specs.Truth.{same, less, one_to, select, check}
 use Rattle.sets.specs.TruthLaws.{one_low, one_high, less_mk, less_off}
 use Rattle.process.specs.Steps.{has_decided}
 use Rattle.bench.specs.State.{process_at}
@@ -21,7 +21,7 @@ pub returns-then-not-one_to : goal.returns-then-not-one_to
 unfolding show_of shown_in show_refusal check select same
 returns-then-not-one_to c =
     let s = c.in_ok-ensure_sound.ensures in
-    let e = sym c.if-not-one_to.ensures in
+    let e : one_to c.args.b.now.n c.args.process ≡ false = sym c.if-not-one_to.ensures in
     record { value = rw (s, e); out_after = rw (s, e) }
 
 pub returns-then-out-n : goal.returns-then-out-n

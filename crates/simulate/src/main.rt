@@ -14,10 +14,12 @@ ghost use Rattle.simulate.specs.LinesLaws.{Answered};
 
 use crate::lines::write_lines;
 use crate::opening::opening;
+use arrayvec::ArrayVec;
 use bench::Bench;
 use reading::read_full;
+use std::fmt::Display;
 use std::io;
-use std::io::{BufWriter, Read, Write};
+use std::io::{Read, Write};
 use text::line::Line;
 use text::processes::Processes;
 
@@ -34,15 +36,28 @@ fn answer_all<R: Read, W: Write>(
         (R.remaining input.old) (R.remaining input.new) (W.contents out.old) (W.contents out.new)) }
 {
     let mut bench = bench;
+    // the lines of a part, which are written at once
+    let mut page = ArrayVec::<u8, 32768>::new();
     for part in 0..1u64 << 53 {
         let read = read_full(input, buffer)?;
-        bench = write_lines(out, bench, &buffer[..read], part * 1024 + 1)?;
+        page.clear();
+        bench = write_lines(&mut page, bench, &buffer[..read], part * 1024 + 1)?;
+        out.write_all(page.as_slice())?;
         out.flush()?;
         if read < 8192 {
             break;
         }
     }
     Ok(bench)
+}
+
+// A text, written at once.
+fn write_at_once<W: Write, D: Display + Drop>(out: &mut W, text: D) -> io::Result<()>
+    ensures { OnOk result (IfSome (D.output text) (Appends (W.contents out.old) (W.contents out.new))) }
+{
+    let mut page = ArrayVec::<u8, 32768>::new();
+    write!(page, "{text}")?;
+    out.write_all(page.as_slice())
 }
 
 // The opening record, and then either all the others and the processes, or the one line of its refusal.
@@ -59,30 +74,21 @@ pub fn simulate<R: Read, W: Write>(
     match opening(&buffer[..read]) {
         Ok(opened) => {
             let bench = answer_all(input, out, opened, buffer)?;
-            write!(out, "{}", Processes { bench: &bench })?;
+            write_at_once(out, Processes { bench: &bench })?;
         }
         Err(refusal) => {
             let line = Line {
                 number: 0,
                 refusal: Some(refusal),
             };
-            write!(out, "{line}")?;
+            write_at_once(out, line)?;
         }
     }
     out.flush()
 }
 
-// The input's buffer is made whole before reading, and holds 1024 records; the output's has room for their lines. Where
-// there is no memory for that, each part of a line is written at once. What a failed write leaves is not tried again.
+// The input's buffer is made whole before reading, and holds 1024 records.
 fn main(rt: HostRuntime) -> io::Result<()> {
     let mut buffer = [0u8; 8192];
-    let mut input = rt.stdin();
-    match BufWriter::with_capacity(rt.alloc(), 32768, rt.stdout()) {
-        Ok(mut out) => {
-            let result = simulate(&mut input, &mut out, &mut buffer);
-            let _unwritten = out.into_parts();
-            result
-        }
-        Err(_) => simulate(&mut input, &mut rt.stdout(), &mut buffer),
-    }
+    simulate(&mut rt.stdin(), &mut rt.stdout(), &mut buffer)
 }

@@ -9,12 +9,12 @@ use Rattle.simulate.specs.Output.{opening_of}
 use Rattle.simulate.specs.LinesLaws.{answered_reached, reached_sound}
 use Rattle.simulate.specs.OpeningLaws.{opening_sound}
 use Rattle.simulate.specs.OutputLaws.{output_refused, output_opened}
-use Rattle.simulate.proofs.simulate.Goals.{in-Ok+in_ok-bench-in-Ok+in_ok-write-in-Ok, in-Err+in_ok-write-in-Err}
+use Rattle.simulate.proofs.simulate.Goals.{in-Ok+in_ok-bench-in-Ok+in_ok-write_at_once-in-Ok, in-Err+in_ok-write_at_once-in-Err}
 use Rattle.simulate.proofs.simulate.Goals as goal
 
 -- a bench that the opening record opens is sound, and so is the one after the records
-pub invariant_of-write : goal.invariant_of-write
-invariant_of-write g c =
+pub invariant_of-write_at_once : goal.invariant_of-write_at_once
+invariant_of-write_at_once g c =
     let s = reached_sound _ _ (answered_reached c.in_ok-bench-in-Ok.ensures)
     (opening_sound _ _ (sym c.opening.ensures ∙ c.in-Ok.is)) in
     record { few = omega (arith, (sound_on _ s).few) }
@@ -34,10 +34,10 @@ returns g c =
     rw c.opening.ensures (rw (take-append-le c.in_ok-read.read c.read_full.new.buf _ read.bound.0)) in
     on_ok _
     (elim c.match-opening.branch [
-      | in-Ok+in_ok-bench-in-Ok+in_ok-write-in-Ok w ↦
+      | in-Ok+in_ok-bench-in-Ok+in_ok-write_at_once-in-Ok w ↦
           output_opened first most _ _ _ _ _ _ _ _ read.bytes end (opened ∙ w.in-Ok.is) w.in_ok-bench-in-Ok.ensures
-          (Appends-kept _ _ _ _ w.in_ok-write-in-Ok.ensures.bytes (rw w.out-is at c.flush.ensures.bytes))
-      | in-Err+in_ok-write-in-Err w ↦
+          (Appends-kept _ _ _ _ w.in_ok-write_at_once-in-Ok.ensures (rw w.out-is at c.flush.ensures.bytes))
+      | in-Err+in_ok-write_at_once-in-Err w ↦
           output_refused first most _ _ _ _ _ read.bytes end (opened ∙ w.in-Err.is)
-          (Appends-kept _ _ _ _ w.in_ok-write-in-Err.ensures.bytes (rw w.out-is at c.flush.ensures.bytes))
+          (Appends-kept _ _ _ _ w.in_ok-write_at_once-in-Err.ensures (rw w.out-is at c.flush.ensures.bytes))
     ])
